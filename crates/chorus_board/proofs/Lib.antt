@@ -1,5 +1,6 @@
 mod Fronts
-mod Extends
+mod Stages
 mod Rules
+mod Worlds
 pub mod Publishes
 pub mod Whereabouts

@@ -13,7 +13,9 @@ use Rattle.chorus_board.specs.declared.reader.BoardReader.{BoardReader}
 use Rattle.chorus_board.specs.declared.reader.Located.{Located}
 use Rattle.chorus_board.specs.declared.board.Board.{Board}
 use Rattle.chorus_board.specs.declared.name.BoardName.{BoardName}
-use Rattle.chorus_board.specs.Located.{located_after, told_of, IsOfPlace, IsPortIn}
+use Rattle.chorus_board.specs.Law.{entries_in}
+use Rattle.chorus_board.specs.Located.{located_after, last_clock_in, told_of, IsOfPlace, IsPortIn}
+use Rattle.chorus_board.specs.Table.{stands_for}
 
 -- the place and the hop of an answer
 abbrev pub pair_told : Located → ℕ × ℕ
@@ -21,7 +23,11 @@ pair_told answer = (answer.place, answer.hop)
 
 -- the entries for which the table stands that the reader saw last
 abbrev pub entries_seen : BoardReader → List Entry
-entries_seen reader = reader.kept.seen.log
+entries_seen reader = stands_for reader.kept
+
+-- the clock of the last of them
+abbrev pub clock_seen : BoardReader → ℕ
+clock_seen reader = last_clock_in (entries_seen reader)
 
 abbrev pub layout_read : BoardReader → Layout
 layout_read reader = reader.kept.hints.layout
@@ -62,11 +68,11 @@ shown board = board.writer.desk.shown.value
 
 -- the entries for which the last publish stands
 abbrev pub entries_published : Board → List Entry
-entries_published board = (shown board).seen.log
+entries_published board = stands_for (shown board)
 
 -- the same, of the last publish that was begun
 abbrev pub entries_begun : Board → List Entry
-entries_begun board = board.front.log
+entries_begun board = entries_in board.front.log
 
 abbrev pub layout_of : Board → Layout
 layout_of board = (shown board).hints.layout
@@ -107,12 +113,13 @@ LocatesAfter board ui place hop entries = (q : Ui) → IsPortIn (layout_of board
     ≡ located_after (layout_of board) entries q
 
 -- a publish of the port, with `number` entries: these, of the board's place, which begin with those of the publish begun
--- before, and after which each port is located where the board then has it
-pub record MayPublish (board : Board) (ui : Ui) (to hop number : ℕ) (entries : List Entry) : Type 0 where
+-- before, of which the last has this clock, and after which each port is located where the board then has it
+pub record MayPublish (board : Board) (ui : Ui) (to hop number clock : ℕ) (entries : List Entry) : Type 0 where
   pub port : ui.kind ≡ Port
   pub in_layout : IsTrue (can_make_port (layout_of board) ui)
   pub longer : IsPrefix (entries_begun board) entries
   pub count : number ≡ length entries
+  pub last : clock ≡ last_clock_in entries
   pub of_place : IsOfPlace (place_of board) entries
   pub located : LocatesAfter board ui to hop entries
 

@@ -1,4 +1,5 @@
 pub mod Located
+pub mod Worlds
 pub mod Law
 pub mod Ids
 pub mod Table

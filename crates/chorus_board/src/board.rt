@@ -2,8 +2,8 @@
 ghost use Rattle.std.specs.Prelude.{◌≡◌, true, length, drop, IsOk};
 ghost use Rattle.left_right.specs.Sides.{view};
 ghost use Rattle.chorus_board.specs.Ids.{board_props};
-ghost use Rattle.chorus_board.specs.Law.{head_of};
-ghost use Rattle.chorus_board.specs.Located.{IsOfPlace};
+ghost use Rattle.chorus_board.specs.Law.{head_of, entries_in, IsAuthor};
+ghost use Rattle.chorus_board.specs.Located.{last_clock_in, IsOfPlace};
 ghost use Rattle.chorus_board.specs.Rule.{book_known, layout_known};
 ghost use Rattle.chorus_board.specs.Writers.{after_all, IsReady, IsSettled, IsShown};
 ghost use Rattle.chorus_board.specs.Table.{Exact, IsRoomy, IsOfOneBoard};
@@ -14,6 +14,7 @@ use crate::rule::{Shows, TableWriter};
 use crate::table::Publish;
 use chorus_ui::Ui;
 use core::mem::replace_with;
+use logbook::Pen;
 use std::alloc::AllocError;
 use std::sync::Wait;
 
@@ -22,9 +23,10 @@ pub struct Board {
     pub(crate) writer: TableWriter,
     pub(crate) head: Head,
     pub(crate) front: Witness,
-    pub(crate) reached: u64,
+    pub(crate) author: Pen,
     ghost head_is: { head ≡ head_of front.book } by { Prim.hlevel board_props },
-    ghost reached_is: { reached ≡ length front.log },
+    ghost author_is: { IsAuthor author.book author.nib
+        front.book front.log } by { Prim.hlevel board_props },
     ghost here: { writer.desk.shown.value.seen.book ≡ front.book } by { Prim.hlevel board_props },
     ghost knows: { ((view writer.desk.place).knows ≡ true)
         × (book_known (view writer.desk.place) ≡ front.book)
@@ -33,11 +35,14 @@ pub struct Board {
         × ((view writer.desk.place).place ≡ writer.desk.shown.value.place) } by { Prim.hlevel board_props },
     ghost none_pending: { length (drop writer.behind writer.log.items) ≡ 0 },
     ghost exact: { Exact writer.desk.shown.value.hints
-        writer.desk.shown.value.seen.log } by { Prim.hlevel board_props },
-    ghost long: { writer.desk.shown.value.upto ≡ length writer.desk.shown.value.seen.log },
+        (entries_in writer.desk.shown.value.seen.log) } by { Prim.hlevel board_props },
+    ghost long: { writer.desk.shown.value.upto
+        ≡ length (entries_in writer.desk.shown.value.seen.log) },
+    ghost last: { writer.desk.shown.value.clock
+        ≡ last_clock_in (entries_in writer.desk.shown.value.seen.log) },
     ghost roomy: { IsRoomy writer.desk.shown.value.hints },
     ghost of_place: { IsOfPlace writer.desk.shown.value.place
-        writer.desk.shown.value.seen.log } by { Prim.hlevel board_props },
+        (entries_in writer.desk.shown.value.seen.log) } by { Prim.hlevel board_props },
 }
 
 impl Board {
@@ -46,8 +51,8 @@ impl Board {
     ghost use Rattle.chorus_board.specs.Boards.{entries_seen, entries_published, entries_begun, shown, MayPublish, IsReaderOf, IsSameBoard};
 
     /// Publishes that the port is at the place, by that hop. The publish stands for the entries that `X` names: `upto` of
-    /// them, of the board's place, which begin with those of the publish before, and after which each port is located where the
-    /// board then has it. The layout can make the port.
+    /// them, the last with that clock, all of the board's place, which begin with those of the publish before, and after which each
+    /// port that the layout can make is located where the board then has it. The layout can make this port.
     ///
     /// It waits for readers that are inside. For want of memory nothing is shown; that list was begun all the same, so the next
     /// one begins with it.
@@ -58,20 +63,21 @@ impl Board {
         place: u16,
         hop: u64,
         upto: u64,
+        clock: u64,
     ) -> Result<(), AllocError>
-        requires may { MayPublish self.old ui place hop upto X.entries }
+        requires may { MayPublish self.old ui place hop upto clock X.entries }
         ensures board { IsSameBoard self.old self.new }
         ensures begun { entries_begun self.new ≡ X.entries }
         ensures published { OnOk result (entries_published self.new ≡ X.entries) }
         ensures unshown { OnErr result (shown self.new ≡ shown self.old) }
     {
-        bring_to::<X, R>(rt, &self.head, &mut self.front, self.reached, upto);
-        self.reached = upto;
+        bring_to::<X>(&self.head, &mut self.front, &mut self.author);
         let operation = Publish {
             ui,
             place,
             hop,
             upto,
+            clock,
             seen: self.front.again(),
         };
         match self.writer.append(operation) {
@@ -81,21 +87,14 @@ impl Board {
         show_in(&mut self.writer, rt)
     }
 
-    /// What the reader, which is of this board, has seen is a beginning of what was begun. Where it were not, which no code
-    /// brings about, it waits for ever. Takes no memory.
-    pub fn hear<R: Wait>(&mut self, rt: &R, reader: &mut BoardReader)
+    /// What the reader, which is of this board, has seen is a beginning of what was begun. It compares nothing, and takes no memory.
+    pub fn hear(&mut self, reader: &mut BoardReader)
         requires { IsReaderOf self.old reader.old }
         ensures heard { IsPrefix (entries_seen reader.old) (entries_begun self.new) }
         ensures reader { reader.new ≡ reader.old }
         ensures board { self.new ≡ self.old }
     {
-        covers(
-            rt,
-            &self.front,
-            self.reached,
-            &reader.kept.seen,
-            reader.kept.upto,
-        );
+        covers(&self.head, &self.front, &mut self.author, &reader.kept.seen);
     }
 
     /// For how many entries the last publish of the board stands.
@@ -106,20 +105,13 @@ impl Board {
         self.writer.published().upto
     }
 
-    /// For how many entries the last publish that was begun on the board stands, shown or not.
-    pub fn begun(&self) -> u64
-        ensures { result ≡ length (entries_begun self.now) }
-    {
-        self.reached
-    }
-
     /// Ends the board once no reader is inside. Takes no memory.
     pub fn end<R: Wait>(self, rt: &R) {
         let Self {
             writer,
             head: _,
             front: _,
-            reached: _,
+            author: _,
         } = self;
         drop(writer.take(rt));
     }

@@ -5,17 +5,18 @@
 //! a turn at the place.
 //!
 //! The layer above rests on this: a reader's answer is where the port is located after a list of entries, and that list begins
-//! with the one of the reader's last answer. What a reader has seen is a beginning of what was begun (`Board::hear`), and what was
-//! published can be told to a reader (`BoardReader::follow`). No clause says that a reader's list is one for which a publish stands:
-//! by the rule it is a beginning of the board's one history, and that only `publish` makes that longer is read off the code. Nothing
-//! is said of when a publish comes to a reader. Which board it is, a type of Rust can hold as a [`BoardName`].
+//! with the one of the reader's last answer. The reader tells the clock of the last of these entries (`BoardReader::clock`). What a
+//! reader has seen is a beginning of what was begun (`Board::hear`): a history has one author, who knows all of it (`history`). What
+//! was published can be told to a reader (`BoardReader::follow`). No clause says that a reader's list is one for which a publish
+//! stands, or when a publish comes to a reader. Which board it is, a type of Rust can hold as a [`BoardName`].
 //!
 //! Begin with `specs/Located.antt` and `specs/Boards.antt`, the words of the contracts, then `board` and `reader`. The rule that
-//! holds between any two steps is `specs/Rule.antt`. Boards are this project's own.
+//! holds between any two steps is `specs/Rule.antt`, that of the history `specs/Law.antt`. Boards are this project's own.
 #![tactic(auto)]
 
 mod board;
 mod history;
+mod law;
 mod name;
 mod reader;
 mod rule;
@@ -24,6 +25,7 @@ mod table;
 
 pub use board::Board;
 pub use history::Stands;
+pub use law::boards_tell_of_the_world;
 pub use name::{BoardName, names_tell_boards};
 pub use reader::{BoardReader, Located};
 pub use start::READERS_PER_BOARD;

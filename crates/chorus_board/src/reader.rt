@@ -3,7 +3,8 @@ ghost use Rattle.std.specs.Prelude.{◌≡◌, true, length, IfSome};
 ghost use Rattle.left_right.specs.Sides.{view};
 ghost use Rattle.chorus_board.specs.Ids.{board_props};
 ghost use Rattle.chorus_board.specs.Rule.{book_known, layout_known};
-ghost use Rattle.chorus_board.specs.Located.{IsOfPlace};
+ghost use Rattle.chorus_board.specs.Law.{entries_in};
+ghost use Rattle.chorus_board.specs.Located.{last_clock_in, IsOfPlace};
 ghost use Rattle.chorus_board.specs.Table.{Exact, IsRoomy, IsOfOneBoard, Fine};
 ghost use mathlib.Core.List.{IsPrefix};
 
@@ -17,10 +18,11 @@ use chorus_ui::Ui;
 pub struct BoardReader {
     pub(crate) handle: Option<TableReader>,
     pub(crate) kept: Table,
-    ghost exact: { Exact kept.hints kept.seen.log } by { Prim.hlevel board_props },
-    ghost long: { kept.upto ≡ length kept.seen.log },
+    ghost exact: { Exact kept.hints (entries_in kept.seen.log) } by { Prim.hlevel board_props },
+    ghost long: { kept.upto ≡ length (entries_in kept.seen.log) },
+    ghost last: { kept.clock ≡ last_clock_in (entries_in kept.seen.log) },
     ghost roomy: { IsRoomy kept.hints },
-    ghost of_place: { IsOfPlace kept.place kept.seen.log } by { Prim.hlevel board_props },
+    ghost of_place: { IsOfPlace kept.place (entries_in kept.seen.log) } by { Prim.hlevel board_props },
     ghost tied: { IfSome handle (λ r. ((view r.place).knows ≡ true)
         × (book_known (view r.place) ≡ kept.seen.book)
         × (layout_known (view r.place) ≡ kept.hints.layout)
@@ -42,8 +44,8 @@ impl BoardReader {
     ghost use Rattle.std.specs.Prelude.{◌≡◌, length, IsTrue};
     ghost use Rattle.chorus_ui.specs.declared.kind.Kind.TheVariants.{Port};
     ghost use Rattle.chorus_ui.specs.Layout.{has_site};
-    ghost use Rattle.chorus_board.specs.Located.{located_after, pair_of, IsOfPlace};
-    ghost use Rattle.chorus_board.specs.Boards.{entries_seen, layout_read, place_read, pair_told, ReadsOn};
+    ghost use Rattle.chorus_board.specs.Located.{located_on, pair_of, IsOfPlace};
+    ghost use Rattle.chorus_board.specs.Boards.{entries_seen, clock_seen, layout_read, place_read, pair_told, ReadsOn};
 
     /// Where the port is located after some entries of the board's place, which begin with all that this reader had seen. The port's site is in
     /// the layout.
@@ -56,7 +58,7 @@ impl BoardReader {
         ensures on { ReadsOn self.old self.new }
         ensures of_place { IsOfPlace (place_read self.old) (entries_seen self.new) }
         ensures located { pair_told result
-            ≡ pair_of (located_after (layout_read self.old) (entries_seen self.new) ui) }
+            ≡ pair_of (located_on (layout_read self.old) (entries_seen self.new) ui) }
         ensures upto { result.upto ≡ length (entries_seen self.new) }
     {
         self.refresh();
@@ -66,6 +68,14 @@ impl BoardReader {
             hop,
             upto: self.kept.upto,
         }
+    }
+
+    /// The clock of the last entry for which its last answer stands, or what it followed since; 0 where it has seen none. It reads
+    /// nothing.
+    pub fn clock(&self) -> u64
+        ensures { result ≡ clock_seen self.now }
+    {
+        self.kept.clock
     }
 
     /// Reads the board, if the read is not refused.
@@ -91,8 +101,8 @@ pub(crate) fn take_in(kept: &mut Table, newer: &Table)
     requires fine { Fine newer.now × Fine kept.old }
     ensures same { IsOfOneBoard kept.old kept.new }
     ensures fine { Fine kept.new }
-    ensures begins { IsPrefix kept.old.seen.log kept.new.seen.log }
-    ensures newer { IsPrefix newer.now.seen.log kept.new.seen.log }
+    ensures begins { IsPrefix (entries_in kept.old.seen.log) (entries_in kept.new.seen.log) }
+    ensures newer { IsPrefix (entries_in newer.now.seen.log) (entries_in kept.new.seen.log) }
 {
     let mut both = kept.seen.again();
     both.learn(&newer.seen);
@@ -110,5 +120,6 @@ pub(crate) fn put_down(kept: &mut Table, newer: &Table)
     kept.hints.copy_from(&newer.hints);
     kept.place = newer.place;
     kept.upto = newer.upto;
+    kept.clock = newer.clock;
     kept.seen = newer.seen.again();
 }

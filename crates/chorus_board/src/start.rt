@@ -2,7 +2,7 @@
 ghost use Rattle.std.specs.Prelude.{◌≡◌, ◌<◌, [], length, All, IfOk, IfSome};
 ghost use Rattle.left_right.specs.Sides.{view};
 ghost use Rattle.chorus_board.specs.Boards.{IsNewIn, IsNewBoard, IsReaderOf, IsSameBoard, book_of, shown, entries_begun};
-ghost use Rattle.chorus_board.specs.Law.{head_of};
+ghost use Rattle.chorus_board.specs.Law.{head_of, entries_in, IsAuthor};
 ghost use Rattle.chorus_hints.specs.Known.{nothing_known};
 ghost use Rattle.chorus_board.specs.Table.{Fine};
 
@@ -13,6 +13,7 @@ use crate::rule::{TableReader, TableWriter, Tells};
 use crate::table::Table;
 use chorus_hints::Hints;
 use chorus_ui::Layout;
+use logbook::Pen;
 use std::alloc::{AllocError, Global};
 use std::sync::Wait;
 
@@ -22,11 +23,12 @@ pub const READERS_PER_BOARD: usize = 64;
 /// A table of a new board, which stands for no entries.
 #[tactic(auto, using(crate::proofs::Publishes::first_fine))]
 fn blank(alloc: Global, layout: Layout, place: u16, front: &Witness) -> Result<Table, AllocError>
-    requires { front.now.log ≡ [] }
+    requires { entries_in front.now.log ≡ [] }
     ensures table { IfOk result (λ t. t ≡ record {
       hints = nothing_known layout;
       place = place;
       upto = 0;
+      clock = 0;
       seen = front.now;
     }) }
     ensures fine { IfOk result (λ t. Fine t) }
@@ -35,6 +37,7 @@ fn blank(alloc: Global, layout: Layout, place: u16, front: &Witness) -> Result<T
         hints: Hints::with_room(alloc, layout)?,
         place,
         upto: 0,
+        clock: 0,
         seen: front.again(),
     })
 }
@@ -58,7 +61,7 @@ fn readers_of(
     place: u16,
     front: &Witness,
 ) -> Result<Vec<BoardReader>, AllocError>
-    requires { front.now.log ≡ [] }
+    requires { entries_in front.now.log ≡ [] }
     ensures count { IfOk result (λ v. length v.items ≡ READERS_PER_BOARD) }
     ensures new { IfOk result (λ v. All (IsNewIn front.now.book layout place) v.items) }
 {
@@ -91,9 +94,9 @@ impl Board {
         ensures count { IfOk result (λ r. length r.1.items ≡ READERS_PER_BOARD) }
         ensures readers { IfOk result (λ r. All (IsNewIn (book_of r.0) layout place) r.1.items) }
     {
-        let (head, front) = open_history();
+        let (head, front, author) = open_history()?;
         let mut all = readers_of(alloc, layout, place, &front)?;
-        let mut board = Board::opened(alloc, rt, layout, place, head, front)?;
+        let mut board = Board::opened(alloc, rt, layout, place, (head, front, author))?;
         for reader in all.iter_mut() {
             board.attach(reader);
         }
@@ -106,13 +109,15 @@ impl Board {
         rt: &R,
         layout: Layout,
         place: u16,
-        head: Head,
-        front: Witness,
+        history: (Head, Witness, Pen),
     ) -> Result<Board, AllocError>
-        requires history { (head ≡ head_of front.book) × (front.log ≡ []) }
+        requires head { history.0 ≡ head_of history.1.book }
+        requires author { IsAuthor history.2.book history.2.nib history.1.book history.1.log }
+        requires none { entries_in history.1.log ≡ [] }
         ensures board { IfOk result (λ b. IsNewBoard layout place b) }
-        ensures book { IfOk result (λ b. book_of b ≡ front.book) }
+        ensures book { IfOk result (λ b. book_of b ≡ history.1.book) }
     {
+        let (head, front, author) = history;
         let first = blank(alloc, layout, place, &front)?;
         let second = blank(alloc, layout, place, &front)?;
         let writer = TableWriter::new(alloc, first, second, READERS_PER_BOARD)?;
@@ -121,7 +126,7 @@ impl Board {
             writer,
             head,
             front,
-            reached: 0,
+            author,
         })
     }
 

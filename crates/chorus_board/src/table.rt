@@ -1,17 +1,18 @@
-//! What readers read: where each port is, and for how many entries that stands.
+//! What readers read: where each port is, for how many entries that stands, and the clock of the last of them.
 use crate::history::Witness;
 use chorus_hints::Hints;
 use chorus_ui::{Kind, Ui};
 use left_right::Absorb;
 use std::alloc::AllocError;
 
-/// The locations, the place whose entries tell them, the number of entries for which they stand, and these entries, which have no
-/// bytes.
+/// The locations, the place whose entries tell them, the number of entries for which they stand and the clock of the last one, 0
+/// where there is none, and these entries, which have no bytes.
 #[derive(Drop)]
 pub struct Table {
     pub hints: Hints,
     pub place: u16,
     pub upto: u64,
+    pub clock: u64,
     pub seen: Witness,
 }
 
@@ -22,6 +23,7 @@ pub struct Publish {
     pub place: u16,
     pub hop: u64,
     pub upto: u64,
+    pub clock: u64,
     pub seen: Witness,
 }
 
@@ -42,6 +44,7 @@ impl Absorb<Publish> for Table {
             self.hints.learn(ui, operation.place, operation.hop);
         }
         self.upto = operation.upto;
+        self.clock = operation.clock;
         self.seen = operation.seen.again();
         Ok(())
     }

@@ -1,6 +1,7 @@
 -- One entry more is published, or nothing more is taught.
-use Rattle.std.proofs.Common.{ℕ, zero, suc, ◌≡◌, ◌≢◌, ◌+◌, ◌-◌, ◌<◌, ◌≤◌, List, [], ◌∷◌, ◌++◌, length, take, drop, reverse, slice_get, get_or, Some, None, Result, Ok, Err, OnOk, OnErr, refl, sym, ◌∙◌, ap, subst, arith}
-use Rattle.std.proofs.lemmas.List.{take_more, take-append-drop, append-nil, append_assoc, length-append}
+use Rattle.std.proofs.Common.{ℕ, zero, suc, ◌≡◌, ◌≢◌, ◌+◌, ◌-◌, ◌<◌, ◌≤◌, List, [], ◌∷◌, ◌++◌, length, take, drop, reverse, slice_get, get_or, Some, None, Result, Ok, Err, OnOk, OnErr, inl, inr, refl, sym, ◌∙◌, ap, subst, arith}
+use Rattle.std.proofs.lemmas.Bool.{cases_lt}
+use Rattle.std.proofs.lemmas.List.{take_more, take-append-drop, append-nil, reverse-append, append_assoc, length-append}
 use Rattle.std.proofs.Math.Seq.{take-append-add, take-append_seam}
 use Rattle.std.proofs.lemmas.List.Elements.{All-head, All-tail}
 use Rattle.std.proofs.lemmas.Option.{slice_get_within, get_or_from_slice_get}
@@ -9,16 +10,16 @@ use mathlib.Core.List.{IsPrefix}
 use Rattle.chorus_ui.specs.declared.ui.Ui.{Ui}
 use Rattle.chorus_ui.specs.declared.layout.Layout.{Layout}
 use Rattle.chorus_entry.specs.declared.entry.Entry.{Entry}
-use Rattle.chorus_world.specs.Places.{farther}
+use Rattle.chorus_world.specs.Places.{farther, last_clock}
 use Rattle.std.specs.declared.alloc.AllocError.{AllocError}
-use Rattle.chorus_board.specs.declared.table.Table.{Table}
 use Rattle.chorus_board.specs.declared.board.Board.{Board}
-use Rattle.chorus_board.specs.Located.{located_after, told_of, IsPortIn, IsOfPlace}
-use Rattle.chorus_board.specs.Boards.{layout_of, place_of, shown, entries_published, entries_begun, LocatesAfter}
+use Rattle.chorus_board.specs.Located.{located_after, last_clock_in, told_of, IsPortIn, IsOfPlace}
+use Rattle.chorus_board.specs.Table.{stands_for}
+use Rattle.chorus_board.specs.Boards.{layout_of, place_of, shown, entries_published, entries_begun, LocatesAfter, IsNewBoard}
 use Rattle.chorus_board.proofs.Whereabouts.{located_more, nothing_told}
 use Rattle.place_publish.specs.declared.lesson.Lesson.{Lesson}
 use Rattle.place_publish.specs.Lessons.{lesson, told_in}
-use Rattle.place_publish.specs.Publishing.{IsBoardAt, IsUpTo}
+use Rattle.place_publish.specs.Publishing.{TeachNothing, IsBoardAt, IsUpTo}
 use Rattle.place_publish.proofs.Lessons.{teaches}
 
 pub prefix-take : (xs ys : List Entry) (n : ℕ) → IsPrefix xs ys → length xs ≤ n → IsPrefix xs (take n ys)
@@ -51,8 +52,32 @@ slice-at [] i e lt is = absurd (omega (arith, lt))
 slice-at (x ∷ J) zero e lt is = ap Some (sym is)
 slice-at (x ∷ J) (suc i) e lt is = slice-at J i e (omega (arith, lt)) is
 
+some-at : (J : List Entry) (i : ℕ) → i < length J → (e : Entry) × (slice_get J i ≡ Some e)
+some-at [] i lt = absurd (omega (arith, lt))
+some-at (x ∷ J) zero lt = (x, refl)
+some-at (x ∷ J) (suc i) lt = some-at J i (omega (arith, lt))
+
+take-front : (J news : List Entry) (i : ℕ) → i ≤ length J → take i (J ++ news) ≡ take i J
+take-front J news zero le = refl
+take-front [] news (suc i) le = absurd (omega (arith, le))
+take-front (x ∷ J) news (suc i) le = ap (λ es. x ∷ es) (take-front J news i (omega (arith, le)))
+
+at-front : (J news : List Entry) (i : ℕ) (e : Entry) → i < length J → slice_get (J ++ news) i ≡ Some e → slice_get J i ≡ Some e
+at-front [] news i e lt at = absurd (omega (arith, lt))
+at-front (x ∷ J) news zero e lt at = at
+at-front (x ∷ J) news (suc i) e lt at = at-front J news i e (omega (arith, lt)) at
+
 pub one-more : (J : List Entry) (i : ℕ) (e : Entry) → slice_get J i ≡ Some e → take (i + 1) J ≡ take i J ++ e ∷ []
 one-more J i e at = take_more J i e (slice_get_within J i e at) ∙ ap (λ x. take i J ++ x ∷ []) (get_or_from_slice_get J i e e at)
+
+-- the clock of the last of the first entries
+pub clock-none : (J : List Entry) (n : ℕ) → n ≡ 0 → 0 ≡ last_clock_in (take n J)
+unfolding last_clock_in
+clock-none J n none = ap (λ k. last_clock (reverse (take k J))) (sym none)
+
+pub clock-at : (J : List Entry) (i : ℕ) (e : Entry) → slice_get J i ≡ Some e → e.clock ≡ last_clock_in (take (i + 1) J)
+unfolding last_clock_in
+clock-at J i e at = sym (ap (λ es. last_clock (reverse es)) (one-more J i e at) ∙ ap last_clock (reverse-append (take i J) (e ∷ [])))
 
 -- a beginning as long as the whole is the whole
 pub prefix-whole : (xs ys : List Entry) → IsPrefix xs ys → length xs ≡ length ys → xs ≡ ys
@@ -80,24 +105,46 @@ module _ (l : Layout) (p : ℕ) (J : List Entry) where
   -- at the first entry that the board lacks
   pub at-first : (b : Board) (n : ℕ) → n ≡ length (entries_published b) → IsBoardAt l p J b → IsUpTo l p J n b
   at-first b n count h =
-      let is : take n J ≡ entries_published b = ap (λ m. take m J) count ∙ prefix-is (entries_published b) J h.published in
       record {
         is = h;
         low = omega (arith, count);
         high = (let a = prefix-length (entries_published b) J h.published in omega (arith, a, count));
-        same = λ q here. ap (λ es. located_after l es q) (sym is);
+        silent = λ i e at from to. absurd (omega (arith, count, from, to));
       }
 
+  -- where the entries teach nothing, ports stay where they are located
+  silent-same : (m k : ℕ) → m + k ≤ length J → TeachNothing l J m (m + k) → (q : Ui) → IsPortIn l q → located_after l (take m J) q ≡ located_after l (take (m + k) J) q
+  silent-same m zero le silent q here = ap (λ n. located_after l (take n J) q) (omega arith)
+  silent-same m (suc k) le silent q here =
+      let got = some-at J (m + k) (omega (arith, le)) in
+      let none = silent (m + k) got.0 got.1 (omega arith) (omega arith) in
+      silent-same m k (omega (arith, le)) (λ i e at from to. silent i e at from (omega (arith, to))) q here
+      ∙ ap (λ o. farther (located_after l (take (m + k) J) q) (told_in o q)) (sym none)
+      ∙ ap (farther (located_after l (take (m + k) J) q)) (teaches l q (reverse (take (m + k) J)) got.0 here)
+      ∙ sym (located_more l (take (m + k) J) got.0 q)
+      ∙ ap (λ es. located_after l es q) (sym (one-more J (m + k) got.0 got.1))
+      ∙ ap (λ n. located_after l (take n J) q) (omega arith)
+
+  same-at : (b : Board) (i : ℕ) → IsUpTo l p J i b → (q : Ui) → IsPortIn l q → located_after l (entries_published b) q ≡ located_after l (take i J) q
+  same-at b i h q here =
+      let m = length (entries_published b) in
+      let low = h.low in
+      let high = h.high in
+      let all : m + (i - m) ≡ i = omega (arith, low) in
+      ap (λ es. located_after l es q) (sym (prefix-is (entries_published b) J h.is.published))
+      ∙ silent-same m (i - m) (omega (arith, low, high)) (λ j e at from to. h.silent j e at from (omega (arith, low, to))) q here
+      ∙ ap (λ n. located_after l (take n J) q) all
+
   next : (b : Board) (i : ℕ) (e : Entry) → IsUpTo l p J i b → slice_get J i ≡ Some e → (q : Ui) → IsPortIn l q
-      → farther (located_after l (entries_published b) q) (told_in (lesson (reverse (take i J)) e) q) ≡ located_after l (take (i + 1) J) q
+      → farther (located_after l (entries_published b) q) (told_in (lesson l (reverse (take i J)) e) q) ≡ located_after l (take (i + 1) J) q
   next b i e h at q here =
-      ap (λ z. farther z (told_in (lesson (reverse (take i J)) e) q)) (h.same q here)
-      ∙ ap (farther (located_after l (take i J) q)) (teaches q (reverse (take i J)) e)
+      ap (λ z. farther z (told_in (lesson l (reverse (take i J)) e) q)) (same-at b i h q here)
+      ∙ ap (farther (located_after l (take i J) q)) (teaches l q (reverse (take i J)) e here)
       ∙ sym (located_more l (take i J) e q)
       ∙ ap (λ es. located_after l es q) (sym (one-more J i e at))
 
   -- an entry that teaches nothing
-  pub step-none : (b : Board) (i : ℕ) (e : Entry) → IsUpTo l p J i b → slice_get J i ≡ Some e → lesson (reverse (take i J)) e ≡ None → IsUpTo l p J (i + 1) b
+  pub step-none : (b : Board) (i : ℕ) (e : Entry) → IsUpTo l p J i b → slice_get J i ≡ Some e → lesson l (reverse (take i J)) e ≡ None → IsUpTo l p J (i + 1) b
   step-none b i e h at none =
       let lt = slice_get_within J i e at in
       let low = h.low in
@@ -105,15 +152,34 @@ module _ (l : Layout) (p : ℕ) (J : List Entry) where
         is = h.is;
         low = omega (arith, low);
         high = omega (arith, lt);
-        same = λ q port. ap (λ o. farther (located_after l (entries_published b) q) (told_in o q)) (sym none) ∙ next b i e h at q port;
+        silent = λ j f at_j from to. elim (cases_lt j i) [
+          | inl less ↦ h.silent j f at_j from less
+          | inr more ↦ (
+              let same : i ≡ j = omega (arith, more, to) in
+              let is : e ≡ f = cc (subst (λ k. slice_get J k ≡ Some e) same at, at_j) in
+              subst (λ (z : ℕ × Entry). lesson l (reverse (take z.0 J)) z.1 ≡ None) (λ k. (same k, is k)) none
+              )
+        ];
       }
 
   -- one that teaches
-  pub locates : (b : Board) (i : ℕ) (e : Entry) (t : Lesson) → IsUpTo l p J i b → slice_get J i ≡ Some e → lesson (reverse (take i J)) e ≡ Some t
+  pub locates : (b : Board) (i : ℕ) (e : Entry) (t : Lesson) → IsUpTo l p J i b → slice_get J i ≡ Some e → lesson l (reverse (take i J)) e ≡ Some t
       → LocatesAfter b t.ui t.place t.hop (take (i + 1) J)
   locates b i e t h at some =
       subst (λ k. (q : Ui) → IsPortIn k q → farther (located_after k (entries_published b) q) (told_of q t.ui t.place t.hop) ≡ located_after k (take (i + 1) J) q) (sym h.is.layout)
       (λ q port. ap (λ o. farther (located_after l (entries_published b) q) (told_in o q)) (sym some) ∙ next b i e h at q port)
+
+  -- no more was begun than a publish of this lesson begins
+  pub begun-low : (b : Board) (i : ℕ) (e : Entry) (t : Lesson) → IsUpTo l p J i b → slice_get J i ≡ Some e → lesson l (reverse (take i J)) e ≡ Some t
+      → length (entries_begun b) ≤ i + 1
+  begun-low b i e t h at some = elim (cases_lt (i + 1) (length (entries_begun b))) [
+    | inl more ↦ (let none = h.is.silent i e at h.low (omega (arith, more)) in absurd (cc (none, some)))
+    | inr le ↦ le
+  ]
+
+  -- before the last of these entries nothing is taught
+  before-last : (b : Board) (i n : ℕ) → IsUpTo l p J i b → n ≤ i + 1 → TeachNothing l J (length (entries_published b)) (n - 1)
+  before-last b i n h le j e at from to = h.silent j e at from (omega (arith, le, to))
 
   -- what a publish for the first n entries leaves
   pub shown-now : (b : Board) (n : ℕ) → (layout_of b ≡ l) × (place_of b ≡ p) → n ≤ length J → entries_published b ≡ take n J → entries_begun b ≡ take n J → IsUpTo l p J n b
@@ -123,27 +189,33 @@ module _ (l : Layout) (p : ℕ) (J : List Entry) where
       of_place = same.1;
       published = subst (λ es. IsPrefix es J) (sym published) (take-prefix n J);
       begun = subst (λ es. IsPrefix es J) (sym begun) (take-prefix n J);
+      silent = λ i e at from to. (let x = ap length published in let y = ap length begun in absurd (omega (arith, x, y, from, to)));
     };
     low = (let s = length-take n J le in let t = ap length published in omega (arith, s, t));
     high = le;
-    same = λ q port. ap (λ es. located_after l es q) published;
+    silent = λ i e at from to. (let s = length-take n J le in let t = ap length published in absurd (omega (arith, s, t, from, to)));
   }
 
   -- what a refused one leaves
-  pub refused-now : (old new : Board) (n : ℕ) → IsBoardAt l p J old → (layout_of new ≡ l) × (place_of new ≡ p) → entries_published new ≡ entries_published old
+  refused-now : (old new : Board) (i n : ℕ) → IsUpTo l p J i old → n ≤ i + 1 → n ≤ length J → (layout_of new ≡ l) × (place_of new ≡ p) → entries_published new ≡ entries_published old
       → entries_begun new ≡ take n J → IsBoardAt l p J new
-  refused-now old new n h same published begun = record {
+  refused-now old new i n h least le same published begun = record {
     layout = same.0;
     of_place = same.1;
-    published = subst (λ es. IsPrefix es J) (sym published) h.published;
+    published = subst (λ es. IsPrefix es J) (sym published) h.is.published;
     begun = subst (λ es. IsPrefix es J) (sym begun) (take-prefix n J);
+    silent = λ j e at from to.
+        let x = ap length published in
+        let y = ap length begun in
+        let z = length-take n J le in
+        before-last old i n h least j e at (omega (arith, x, from)) (omega (arith, y, z, to));
   }
 
   -- what a publish for the first n entries leaves, by its answer
-  pub after-publish : (old new : Board) (n : ℕ) (r : Result (Unit {0}) AllocError) → IsBoardAt l p J old → (layout_of new ≡ l) × (place_of new ≡ p) → n ≤ length J
+  pub after-publish : (old new : Board) (i n : ℕ) (r : Result (Unit {0}) AllocError) → IsUpTo l p J i old → n ≤ i + 1 → (layout_of new ≡ l) × (place_of new ≡ p) → n ≤ length J
       → OnOk r (entries_published new ≡ take n J) → OnErr r (shown new ≡ shown old) → entries_begun new ≡ take n J → IsBoardAt l p J new
-  after-publish old new n (Ok x) h same le ok err begun = (shown-now new n same le ok begun).is
-  after-publish old new n (Err f) h same le ok err begun = refused-now old new n h same (ap (λ (t : Table). t.seen.log) err) begun
+  after-publish old new i n (Ok x) h least same le ok err begun = (shown-now new n same le ok begun).is
+  after-publish old new i n (Err f) h least same le ok err begun = refused-now old new i n h least le same (ap stands_for err) begun
 
   pub upto-publish : (new : Board) (n : ℕ) (r : Result (Unit {0}) AllocError) → (layout_of new ≡ l) × (place_of new ≡ p) → n ≤ length J
       → OnOk r (entries_published new ≡ take n J) → entries_begun new ≡ take n J → OnOk r (IsUpTo l p J n new)
@@ -154,7 +226,7 @@ module _ (l : Layout) (p : ℕ) (J : List Entry) where
   pub grows-publish : (old new : Board) (n : ℕ) (r : Result (Unit {0}) AllocError) → IsBoardAt l p J old → length (entries_published old) ≤ n
       → OnOk r (entries_published new ≡ take n J) → OnErr r (shown new ≡ shown old) → IsPrefix (entries_published old) (entries_published new)
   grows-publish old new n (Ok x) h le ok err = subst (IsPrefix (entries_published old)) (sym ok) (prefix-take (entries_published old) J n h.published le)
-  grows-publish old new n (Err f) h le ok err = same-prefix (entries_published old) (entries_published new) (ap (λ (t : Table). t.seen.log) err)
+  grows-publish old new n (Err f) h le ok err = same-prefix (entries_published old) (entries_published new) (ap stands_for err)
 
   -- a beginning of entries of the place is of the place
   pub of-place : (b : Board) (n : ℕ) → IsBoardAt l p J b → All (λ (e : Entry). e.place ≡ p) J → IsOfPlace (place_of b) (take n J)
@@ -165,7 +237,7 @@ module _ (l : Layout) (p : ℕ) (J : List Entry) where
   locates-all b ui to hop none h =
       subst (λ n. LocatesAfter b ui to n (take (length J) J)) (sym none)
       (subst (λ k. (q : Ui) → IsPortIn k q → farther (located_after k (entries_published b) q) (told_of q ui to 0) ≡ located_after k (take (length J) J) q) (sym h.is.layout)
-      (λ q port. nothing_told (located_after l (entries_published b) q) q ui to ∙ h.same q port))
+      (λ q port. nothing_told (located_after l (entries_published b) q) q ui to ∙ same-at b (length J) h q port))
 
 -- more entries of the place
 pub published-on : (l : Layout) (p : ℕ) (J news : List Entry) (b : Board) → IsBoardAt l p J b → IsBoardAt l p (J ++ news) b
@@ -174,4 +246,18 @@ published-on l p J news b h = record {
   of_place = h.of_place;
   published = prefix-more (entries_published b) J news h.published;
   begun = prefix-more (entries_begun b) J news h.begun;
+  silent = λ i e at from to.
+      let most = prefix-length (entries_begun b) J h.begun in
+      let lt : i < length J = omega (arith, most, to) in
+      ap (λ es. lesson l (reverse es) e) (take-front J news i (omega (arith, lt))) ∙ h.silent i e (at-front J news i e lt at) from to;
+}
+
+-- on a new board nothing is published
+pub new-published : (l : Layout) (p : ℕ) (J : List Entry) (b : Board) → IsNewBoard l p b → IsBoardAt l p J b
+new-published l p J b new = record {
+  layout = new.0;
+  of_place = new.1;
+  published = subst (λ es. IsPrefix es J) (sym new.2) (J, refl);
+  begun = subst (λ es. IsPrefix es J) (sym new.3) (J, refl);
+  silent = λ i e at from to. (let none = ap length new.3 in absurd (omega (arith, none, to)));
 }

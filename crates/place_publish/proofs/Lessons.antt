@@ -1,5 +1,11 @@
 -- What an entry teaches is what it adds to where ports are located.
-use Rattle.std.proofs.Common.{ℕ, ◌≡◌, List, Option, Some, None, Bool, true, false, if◌then◌else◌, refl}
+use Rattle.std.proofs.Common.{ℕ, ◌≡◌, List, Option, Some, None, Bool, true, false, true≢false, if◌then◌else◌, refl, sym, ◌∙◌, ap, subst}
+use Rattle.std.proofs.lemmas.Bool.{and_parts}
+use Rattle.chorus_ui.specs.declared.kind.Kind.TheVariants.{Port}
+use Rattle.chorus_ui.specs.declared.layout.Layout.{Layout}
+use Rattle.chorus_ui.specs.Kind.{same_kind}
+use Rattle.chorus_ui.specs.Layout.{can_make_port, names_port}
+use Rattle.chorus_ui.proofs.Names.{from_same_ui, from_same_kind}
 use Rattle.chorus_ui.specs.declared.ui.Ui.{Ui}
 use Rattle.chorus_ui.specs.Name.{same_ui}
 use Rattle.chorus_entry.specs.declared.act.Act.{Act}
@@ -10,7 +16,9 @@ use Rattle.chorus_entry.specs.declared.entry.Entry.{Entry}
 use Rattle.chorus_world.specs.declared.place.Sent.{Sent}
 use Rattle.chorus_world.specs.declared.place.Location.{Location}
 use Rattle.chorus_world.specs.Places.{find_sent, sent, learned, taught, is_sent_to}
-use Rattle.place_publish.specs.Lessons.{port_in, lesson_told, lesson_in, lesson, told_in}
+use Rattle.chorus_board.specs.Located.{told_of, IsPortIn}
+use Rattle.place_publish.specs.declared.lesson.Lesson.{Lesson}
+use Rattle.place_publish.specs.Lessons.{port_in, lesson_told, lesson_in, counted, lesson, told_in}
 
 nowhere : (b : Bool) → (let none : Option Location = None in none) ≡ (if b then None else None)
 nowhere true = refl
@@ -72,5 +80,38 @@ taught-act q p here (Cancel a) = refl
 taught-act q p here (Delete a b) = refl
 taught-act q p here (Gone a b) = refl
 
-pub teaches : (q : Ui) (here : List Entry) (e : Entry) → told_in (lesson here e) q ≡ learned q e.place here e.act
-teaches q here e = taught-act q e.place here e.act
+-- of a port that the layout can make all lessons count
+counts : (l : Layout) (q : Ui) (o : Option Lesson) → IsPortIn l q → told_in (counted l o) q ≡ told_in o q
+counts l q None listed = refl
+counts l q (Some t) listed = by (names_port l t.ui) refl
+  where
+    told : Bool → Option Location
+    told b = told_in (if b then Some t else None) q
+
+    other : (c : Bool) → same_ui t.ui q ≡ c → names_port l t.ui ≡ false → told false ≡ (if c then Some (record { to = t.place; hop = t.hop }) else None)
+    other true same is = absurd (true≢false (sym listed ∙ ap (names_port l) (sym (from_same_ui t.ui q same)) ∙ is))
+    other false same is = refl
+
+    by : (b : Bool) → names_port l t.ui ≡ b → told (names_port l t.ui) ≡ told_of q t.ui t.place t.hop
+    by true is = ap told is
+    by false is = ap told is ∙ other (same_ui t.ui q) refl is
+
+-- a lesson that counts is of one
+counted-listed : (l : Layout) (o : Option Lesson) (t : Lesson) → counted l o ≡ Some t → (t.ui.kind ≡ Port) × (can_make_port l t.ui ≡ true)
+counted-listed l None t is = absurd (cc)
+counted-listed l (Some u) t is = by (names_port l u.ui) refl
+  where
+    by : (b : Bool) → names_port l u.ui ≡ b → (t.ui.kind ≡ Port) × (can_make_port l t.ui ≡ true)
+    by true listed =
+        let is_t : Some u ≡ Some t = sym (ap (λ (b : Bool). if b then Some u else None) listed) ∙ is in
+        let same : u ≡ t = cc (is_t) in
+        let two = and_parts (same_kind t.ui.kind Port) (can_make_port l t.ui) (subst (λ (x : Lesson). names_port l x.ui ≡ true) same listed) in
+        (from_same_kind t.ui.kind Port two.0, two.1)
+    by false listed =
+        let none : (let n : Option Lesson = None in n) ≡ Some t = sym (ap (λ (b : Bool). if b then Some u else None) listed) ∙ is in absurd (cc (none))
+
+pub lesson-listed : (l : Layout) (here : List Entry) (e : Entry) (t : Lesson) → lesson l here e ≡ Some t → (t.ui.kind ≡ Port) × (can_make_port l t.ui ≡ true)
+lesson-listed l here e t is = counted-listed l (lesson_in e.place here e.act) t is
+
+pub teaches : (l : Layout) (q : Ui) (here : List Entry) (e : Entry) → IsPortIn l q → told_in (lesson l here e) q ≡ learned q e.place here e.act
+teaches l q here e listed = counts l q (lesson_in e.place here e.act) listed ∙ taught-act q e.place here e.act

@@ -1,6 +1,8 @@
 -- What an entry teaches of a port.
--- here are the entries before it, the newest first.
-use Rattle.std.specs.Prelude.{ℕ, List, Option, Some, None}
+-- here are the entries before it, the newest first; l is a layout.
+use Rattle.std.specs.Prelude.{ℕ, if◌then◌else◌, List, Option, Some, None}
+use Rattle.chorus_ui.specs.declared.layout.Layout.{Layout}
+use Rattle.chorus_ui.specs.Layout.{names_port}
 use Rattle.chorus_ui.specs.declared.ui.Ui.{Ui}
 use Rattle.chorus_entry.specs.declared.act.Act.{Act}
 use Rattle.chorus_entry.specs.declared.act.Act.TheVariants.{Told, Depart, Arrive}
@@ -36,8 +38,13 @@ lesson_in p here (Depart q to a hop) = Some (record { ui = q; place = to; hop = 
 lesson_in p here (Told x a) = lesson_told (port_in (find_sent x (sent here))) a
 lesson_in p here _ = None
 
-abbrev pub lesson : List Entry → Entry → Option Lesson
-lesson here e = lesson_in e.place here e.act
+-- it counts where the layout can make the port
+abbrev pub counted : Layout → Option Lesson → Option Lesson
+counted l None = None
+counted l (Some t) = if names_port l t.ui then Some t else None
+
+abbrev pub lesson : Layout → List Entry → Entry → Option Lesson
+lesson l here e = counted l (lesson_in e.place here e.act)
 
 -- what the lesson tells of the port q
 abbrev pub told_in : Option Lesson → Ui → Option Location

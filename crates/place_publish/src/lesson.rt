@@ -1,10 +1,10 @@
 //! What an entry teaches of a port.
 ghost use Rattle.std.specs.Prelude.{◌≡◌, ◌≤◌, length, reverse, take};
 ghost use Rattle.chorus_world.specs.Places.{find_sent, sent, sent_by, sent_to, copies};
-ghost use Rattle.place_publish.specs.Lessons.{lesson, lesson_told, newer, port_in};
+ghost use Rattle.place_publish.specs.Lessons.{lesson, lesson_in, lesson_told, newer, port_in};
 
 use chorus_entry::{Act, Answer, Dest, Entry, MsgId};
-use chorus_ui::Ui;
+use chorus_ui::{Layout, Ui};
 
 /// The port is at the place, by that hop.
 #[derive(Clone, Copy)]
@@ -71,10 +71,29 @@ fn port_of(journal: &[Entry], upto: usize, id: MsgId) -> Option<Ui>
     None
 }
 
-/// What the entry behind the first `upto` teaches of a port.
-pub(crate) fn lesson_of(entry: &Entry, journal: &[Entry], upto: usize) -> Option<Lesson>
+/// What the entry behind the first `upto` teaches of a port that the layout can make.
+pub(crate) fn lesson_of(
+    layout: Layout,
+    entry: &Entry,
+    journal: &[Entry],
+    upto: usize,
+) -> Option<Lesson>
     requires { upto ≤ length journal.now }
-    ensures { result ≡ lesson (reverse (take upto journal.now)) entry.now }
+    ensures { result ≡ lesson layout (reverse (take upto journal.now)) entry.now }
+{
+    let lesson = lesson_in(entry, journal, upto)?;
+    if lesson.ui.is_port() && layout.can_make_port(lesson.ui) {
+        Some(lesson)
+    } else {
+        None
+    }
+}
+
+/// What the entry behind the first `upto` teaches of any port.
+fn lesson_in(entry: &Entry, journal: &[Entry], upto: usize) -> Option<Lesson>
+    requires { upto ≤ length journal.now }
+    ensures { result ≡
+        lesson_in entry.now.place (reverse (take upto journal.now)) entry.now.act }
 {
     match &entry.act {
         Act::Arrive { port, hop } => Some(Lesson {

@@ -1,5 +1,6 @@
 //! One publish.
-ghost use Rattle.std.specs.Prelude.{◌≡◌, true, take, OnOk, OnErr};
+ghost use Rattle.std.specs.Prelude.{◌≡◌, ◌≤◌, length, take, OnOk, OnErr};
+ghost use Rattle.chorus_board.specs.Located.{last_clock_in};
 ghost use Rattle.chorus_board.specs.Boards.{entries_published, entries_begun, shown, MayPublish, IsSameBoard};
 
 use crate::lesson::Lesson;
@@ -9,15 +10,18 @@ use std::alloc::AllocError;
 use std::marker::Brand;
 use std::sync::Wait;
 
-/// Waits for ever where the condition of a publish is false, which no entry of the place machine brings about.
-pub(crate) fn wait_unless<R: Wait>(rt: &R, holds: bool)
-    ensures { holds ≡ true }
+/// The clock of the last of the first `upto` entries, 0 where `upto` is 0.
+fn clock_of(journal: &[Entry], upto: usize) -> u64
+    requires { upto ≤ length journal.now }
+    ensures { result ≡ last_clock_in (take upto journal.now) }
 {
-    if holds {
-        return;
+    if upto == 0 {
+        return 0;
     }
-    for _ in rt.forever() {}
-    unreachable!()
+    let Some(entry) = journal.get(upto - 1) else {
+        unreachable!()
+    };
+    entry.clock
 }
 
 /// Publishes the lesson, in one publish, for the first `upto` entries, which `X` names.
@@ -28,15 +32,17 @@ fn publish_as<X: Stands, R: Wait>(
     journal: &[Entry],
     upto: usize,
 ) -> Result<(), AllocError>
+    requires within { upto ≤ length journal.now }
     requires stands { X.entries ≡ take upto journal.now }
-    requires may { MayPublish board.old lesson.ui lesson.place lesson.hop upto X.entries }
+    requires may { MayPublish board.old lesson.ui lesson.place lesson.hop upto
+        (last_clock_in X.entries) X.entries }
     ensures board { IsSameBoard board.old board.new }
     ensures begun { entries_begun board.new ≡ X.entries }
     ensures published { OnOk result (entries_published board.new ≡ X.entries) }
     ensures unshown { OnErr result (shown board.new ≡ shown board.old) }
 {
-    let _ = journal;
-    board.publish::<X, R>(rt, lesson.ui, lesson.place, lesson.hop, upto as u64)
+    let clock = clock_of(journal, upto);
+    board.publish::<X, R>(rt, lesson.ui, lesson.place, lesson.hop, upto as u64, clock)
 }
 
 /// Publishes the lesson, in one publish, for the first `upto` entries of the journal.
@@ -47,8 +53,9 @@ pub(crate) fn publish_first<R: Wait>(
     journal: &[Entry],
     upto: usize,
 ) -> Result<(), AllocError>
+    requires within { upto ≤ length journal.now }
     requires may { MayPublish board.old lesson.ui lesson.place lesson.hop upto
-        (take upto journal.now) }
+        (last_clock_in (take upto journal.now)) (take upto journal.now) }
     ensures board { IsSameBoard board.old board.new }
     ensures begun { entries_begun board.new ≡ take upto journal.now }
     ensures published { OnOk result (entries_published board.new ≡ take upto journal.now) }

@@ -8,7 +8,7 @@ ghost use Rattle.chorus_board.specs.Boards.{entries_published, book_of};
 ghost use Rattle.place_publish.specs.Publishing.{IsBoardAt, IsUpTo};
 
 use crate::lesson::{Lesson, lesson_of};
-use crate::one_publish::{publish_first, wait_unless};
+use crate::one_publish::publish_first;
 use chorus_board::Board;
 use chorus_entry::Entry;
 use chorus_ui::{Kind, Layout, Ui};
@@ -36,14 +36,10 @@ fn publish_entry<R: Wait>(
         unreachable!()
     };
     let _ = number;
-    let Some(lesson) = lesson_of(entry, journal, index) else {
+    let Some(lesson) = lesson_of(layout, entry, journal, index) else {
         return Ok(());
     };
-    let upto = index + 1;
-    wait_unless(rt, lesson.ui.kind() == Kind::Port);
-    wait_unless(rt, layout.can_make_port(lesson.ui));
-    wait_unless(rt, board.begun() <= upto as u64);
-    publish_first(rt, board, lesson, journal, upto)
+    publish_first(rt, board, lesson, journal, index + 1)
 }
 
 /// The lesson with which a place publishes that all entries are there: the first port of the layout, at hop 0, which teaches
@@ -85,11 +81,11 @@ fn publish_all<R: Wait>(
     publish_first(rt, board, nothing(), journal, upto)
 }
 
-/// Publishes what the board of a place lacks of its journal: each entry that tells where a port is, in their order, and at last that all
-/// entries are there. Where the board lacks nothing it publishes nothing, and does not fail.
+/// Publishes what the board of a place lacks of its journal: each entry that tells where a port of the layout is, in their order, and at
+/// last that all entries are there. Where the board lacks nothing it publishes nothing, and does not fail.
 ///
-/// It waits for readers that are inside, and for ever where an entry tells of a port that the layout cannot make. At want of memory, the one error, a beginning of what the board lacked is published, and the
-/// next call goes on there.
+/// It waits for readers that are inside, and for nothing else. At want of memory, the one error, a beginning of what the board lacked is
+/// published, and the next call goes on there.
 pub fn publish_missing<R: Wait>(
     rt: &R,
     board: &mut Board,

@@ -1,21 +1,26 @@
 -- What the publishes of the tests owe to the contract of `publish`.
-use Rattle.std.proofs.Common.{◌≡◌, ℕ, zero, suc, ◌+◌, ◌%◌, [], ◌∷◌, ◌++◌, length, rules, refl, ap, sym, ◌∙◌, arith, length-append}
+use Rattle.std.proofs.Common.{◌≡◌, ℕ, zero, suc, ◌+◌, ◌%◌, [], ◌∷◌, ◌++◌, length, reverse, rules, refl, ap, sym, ◌∙◌, arith, length-append}
+use Rattle.std.proofs.lemmas.List.{reverse-append}
 use Rattle.std.proofs.lemmas.List.Elements.{All-append}
 use Rattle.std.specs.List.{All}
 use Rattle.chorus_ui.specs.declared.layout.Layout.{Layout}
 use Rattle.chorus_ui.specs.declared.ui.Ui.{Ui}
 use Rattle.chorus_entry.specs.declared.act.Act.TheVariants.{Depart}
 use Rattle.chorus_entry.specs.declared.entry.Entry.{Entry}
-use Rattle.chorus_world.specs.Places.{farther}
+use Rattle.chorus_world.specs.Places.{farther, last_clock}
 use Rattle.chorus_board.specs.declared.board.Board.{Board}
 use Rattle.chorus_board.specs.Boards.{IsNewBoard}
-use Rattle.chorus_board.specs.Located.{located_after, told_of, IsOfPlace}
+use Rattle.chorus_board.specs.Located.{located_after, last_clock_in, told_of, IsOfPlace}
 use Rattle.chorus_board.proofs.Whereabouts.{located_more, of_place}
 use Rattle.tests_turns.specs.Moves.{entry_of, departure, departures, HasDeparted}
 
 pub departure_located : (l : Layout) (port : Ui) (place hop : ℕ) (q : Ui) → farther (located_after l [] q) (told_of q port place hop) ≡ located_after l (departure port place hop) q
 unfolding located_after
 departure_located l port place hop q = refl
+
+pub departure_clock : (port : Ui) (place hop : ℕ) → 3 ≡ last_clock_in (departure port place hop)
+unfolding last_clock_in
+departure_clock port place hop = refl
 
 pub departure_of_place : (port : Ui) (place hop : ℕ) → IsOfPlace 1 (departure port place hop)
 departure_of_place port place hop = of_place 1 (departure port place hop) (search rules)
@@ -39,6 +44,11 @@ pub length_departures : (port : Ui) (n : ℕ) → length (departures port n) ≡
 unfolding departures
 length_departures port zero = refl
 length_departures port (suc n) = let more = length_departures port n in let all = length-append (departures port n) (next_entry port n ∷ []) in omega (arith, all, more)
+
+pub departures_clock : (port : Ui) (n : ℕ) → n + 1 ≡ last_clock_in (departures port (n + 1))
+unfolding last_clock_in
+departures_clock port n =
+    sym (ap (λ log. last_clock (reverse log)) (next_departures port n) ∙ ap last_clock (reverse-append (departures port n) (next_entry port n ∷ [])))
 
 one_here : (e : Entry) → e.place ≡ 1 → All (λ (x : Entry). x.place ≡ 1) (e ∷ [])
 one_here e here zero d inside = here

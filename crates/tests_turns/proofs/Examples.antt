@@ -1,9 +1,9 @@
 -- Examples, each computed: what a publish may not tell of a board.
-use Rattle.std.proofs.Common.{◌≡◌, [], refl, sym, ◌∙◌, ap, arith}
+use Rattle.std.proofs.Common.{◌≡◌, [], sym, ◌∙◌, ap, arith}
 use Rattle.chorus_ui.specs.declared.kind.Kind.TheVariants as kinds
 use Rattle.chorus_ui.specs.declared.layout.Layout.{Layout}
 use Rattle.chorus_ui.specs.declared.ui.Ui.{Ui}
-use Rattle.chorus_ui.specs.Layout.{has_site}
+use Rattle.chorus_ui.specs.Layout.{names_port}
 use Rattle.chorus_world.specs.declared.place.Location.{Location}
 use Rattle.chorus_world.specs.Places.{farther}
 use Rattle.chorus_board.specs.declared.board.Board.{Board}
@@ -21,7 +21,7 @@ not-departed : (board : Board) → layout_of board ≡ two_sites → entries_pub
 unfolding located_after
 not-departed board layout published located =
     let here : farther (located_after (layout_of board) (entries_published board) port) (told_of port port 2 1) ≡ located_after (layout_of board) [] port =
-    located port (refl, ap (λ l. has_site l 1) layout) in
+    located port (ap (λ l. names_port l port) layout) in
     let there : farther (located_after two_sites [] port) (told_of port port 2 1) ≡ located_after two_sites [] port =
     sym (λ i. farther (located_after (layout i) (published i) port) (told_of port port 2 1)) ∙ (here ∙ (λ i. located_after (layout i) [] port)) in
     let hops : 1 ≡ 0 = ap (λ (l : Location). l.hop) there in

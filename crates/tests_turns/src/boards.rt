@@ -56,7 +56,7 @@ fn publish_departure<R: Abort + Wait>(rt: &R, board: &mut Board, port: Ui, place
     ensures board { IsSameBoard board.old board.new }
     ensures published { entries_published board.new ≡ departure port place hop }
 {
-    let Ok(()) = board.publish::<Brand, R>(rt, port, place, hop, 3) else {
+    let Ok(()) = board.publish::<Brand, R>(rt, port, place, hop, 3, 3) else {
         panic!(rt; "memory")
     };
 }
@@ -81,7 +81,7 @@ pub(crate) fn publish_next<R: Abort + Wait>(rt: &R, board: &mut Board, port: Ui,
 {
     let hop = count + 1;
     let place = (hop % 2) as u16 + 1;
-    let Ok(()) = board.publish::<Brand, R>(rt, port, place, hop, hop) else {
+    let Ok(()) = board.publish::<Brand, R>(rt, port, place, hop, hop, hop) else {
         panic!(rt; "memory")
     };
 }
@@ -117,7 +117,7 @@ fn assert_located(rt: &impl Abort, found: Located, expected: (u16, u64, u64)) {
     assert_eq!(rt; (found.place, found.hop, found.upto), expected);
 }
 
-/// Asserts where the reader has the port.
+/// Asserts where the reader has the port, and that the last entry that tells it has its number as its clock.
 fn assert_newest(
     rt: &impl Abort,
     reader: &mut BoardReader,
@@ -129,6 +129,7 @@ fn assert_newest(
     ensures { IsSameReader reader.old reader.new }
 {
     assert_located(rt, newest(rt, reader, layout, port), expected);
+    assert_eq!(rt; reader.clock(), expected.2);
 }
 
 const MOVED: (u16, u64, u64) = (2, 1, 3);
@@ -157,7 +158,7 @@ fn assert_sees<R: Abort + Wait>(
     publish_first(rt, &mut board, layout, port);
     assert_newest(rt, &mut reader, layout, port, MOVED);
     assert_newest(rt, &mut reader, layout, other, MADE);
-    board.hear(rt, &mut reader);
+    board.hear(&mut reader);
     follower.follow(&mut board);
     board.end(rt);
     assert_newest(rt, &mut follower, layout, port, MOVED);
