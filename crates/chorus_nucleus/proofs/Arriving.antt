@@ -11,7 +11,7 @@ use Rattle.chorus_ui.specs.declared.ui.Ui.{Ui}
 use Rattle.chorus_ui.specs.Layout.{places, has_actor, creation_place}
 use Rattle.chorus_ui.specs.NameKind.{is_actor}
 use Rattle.chorus_entry.specs.declared.packet.Packet.{Packet}
-use Rattle.chorus_calls.specs.Callers.{Seated, new_caller}
+use Rattle.chorus_calls.specs.Callers.{Seated, new_caller, raised}
 use Rattle.chorus_ruled_ends.specs.Ruled.{Ruled}
 use Rattle.chorus_board.specs.declared.reader.BoardReader.{BoardReader}
 use Rattle.chorus_board.specs.declared.start.TheConstants.{READERS_PER_BOARD}
@@ -21,6 +21,7 @@ use Rattle.chorus_turn.specs.Lists.{StartsWithBoth}
 use Rattle.chorus_turn.specs.Knowing.{newcomer, after_draw, after_retirement}
 use Rattle.chorus_turn.specs.Passes as turns
 use Rattle.law_closing.specs.Closing.{IsPlace}
+use Rattle.law_closing.specs.Behind.{HasSeenBelow}
 use Rattle.law_closing.specs.Places.{PlaceNote}
 use Rattle.chorus_nucleus.specs.declared.site_turns.site.Site.{Site}
 use Rattle.chorus_nucleus.specs.declared.nucleus.Nucleus.{Nucleus}
@@ -29,7 +30,7 @@ use Rattle.chorus_nucleus.specs.declared.sight.Sight.{Sight}
 use Rattle.chorus_nucleus.specs.Passes.{Reads, AreSpare, IsCallerOf, IsPassOf, row_at, home_of, readers_at}
 use Rattle.chorus_nucleus.specs.Readers.{TakesReader, Inherits, with_reader}
 use Rattle.chorus_nucleus.specs.Coming.{GetsReader, Enters, IsKeptKeeper, Retires, given_back}
-use Rattle.chorus_nucleus.proofs.Sights.{spare-taken, taken-count, taken-none, spare-inherited, inherited-count}
+use Rattle.chorus_nucleus.proofs.Sights.{spare-taken, taken-is, taken-none, spare-inherited, inherited-count}
 use Rattle.chorus_nucleus.proofs.Threads.{caller-drew, caller-comes, caller-joined}
 
 none-spare : (l : Layout) (handed : List (Site Ruled Packet)) (rows : List (Vec BoardReader)) → rows ≡ [] → AreSpare l handed rows
@@ -75,7 +76,8 @@ module _ (n : Nucleus) (old : Pass) (after fresh : turner.Pass PlaceNote) (is : 
       pass = record {
         sites = is.sites;
         turner = came.0;
-        caller = subst (IsCallerOf n.layout (turns.known fresh)) (sym caller) (caller-comes n.layout a last kind there q (turns.known old.turner) (turns.known fresh) came.1 seat);
+        caller = subst (IsCallerOf n.layout (turns.known fresh)) (sym caller) (caller-comes n.layout a last kind there q (turns.known old.turner) (turns.known fresh) came.1 seat
+            (subst (λ c. HasSeenBelow (c + 1) (turns.known old.turner)) (sym clock) is.caller.seen));
         sight = record {
           own = subst (λ h. IfSome r (λ x. Reads n.layout (turns.handed n.turns) h x)) at-home left.1;
           spare = none-spare n.layout (turns.handed n.turns) nothing.items empty;
@@ -88,7 +90,7 @@ module _ (n : Nucleus) (old : Pass) (after fresh : turner.Pass PlaceNote) (is : 
       caller = caller ∙ ap (λ s. new_caller s a last) (seat ∙ ap (λ (v : Knowledge PlaceNote). v.seat) came.1) ∙ ap (λ c. new_caller (turns.known old.turner).made a c) clock;
       worn = refl;
       reader = subst (λ h. GetsReader h old drew comer) at-home (record {
-        taken = taken-count r (row_at p old.sight.spare.items) (row_at p rows.items) took.taken;
+        taken = taken-is r (row_at p old.sight.spare.items) (row_at p rows.items) took.taken;
         none = taken-none r (row_at p old.sight.spare.items) (row_at p rows.items) took.taken;
         others = λ o from ne. ap length (took.others o from ne);
         own = λ o. ap (λ xs. length (row_at o xs)) empty;
@@ -135,7 +137,7 @@ module _ (n : Nucleus) (ended into : Pass) (after : turner.Pass PlaceNote) (gone
     (knows : turns.known after ≡ after_retirement (turns.known into.turner) (turns.known ended.turner))
     (p : ℕ) (low : IsPlace (places n.layout) p) (here : p ≡ home_of n.layout ended.caller) (was keeps : Bool) (was_is : was ≡ (turns.known ended.turner).keeper) (keeps_is : keeps ≡ (turns.known after).keeper)
     (sight : Sight) (own : sight.reader ≡ into.sight.reader) (worn : Option ℕ) (first : worn ≡ option_or into.worn ended.worn)
-    (got : Inherits keeps ended.sight.reader p (kept_rows was ended.sight.spare.items into.sight.spare.items) sight.spare.items) where
+    (got : Inherits keeps ended.sight.reader p (kept_rows was ended.sight.spare.items into.sight.spare.items) sight.spare.items) (w : Seated) (shown : w ≡ raised ended.caller.last into.caller) where
   abbrev Handed : List (Site Ruled Packet)
   Handed = turns.handed n.turns
 
@@ -171,7 +173,7 @@ module _ (n : Nucleus) (ended into : Pass) (after : turner.Pass PlaceNote) (gone
       by (Some r) g = g
 
   abbrev joined : Pass
-  joined = record { turner = after; caller = into.caller; worn = worn; sight = sight }
+  joined = record { turner = after; caller = w; worn = worn; sight = sight }
 
   counted : (q : ℕ) → 1 ≤ q → (b : Bool) → (turns.known ended.turner).keeper ≡ b
       → readers_at q joined ≡ (let k : ℕ = cond b (readers_at q ended) (readers_at q into) in cond (q == p) (given_back keeps ended.sight.reader k) k)
@@ -189,9 +191,12 @@ module _ (n : Nucleus) (ended into : Pass) (after : turner.Pass PlaceNote) (gone
     pass = record {
       sites = is.sites;
       turner = of;
-      caller = subst (λ k. IsCallerOf n.layout k into.caller) (sym knows) (caller-joined n.layout (turns.known into.turner) (turns.known ended.turner) into.caller ended.caller is.caller gone.caller);
+      caller = subst (λ k. IsCallerOf n.layout k w) (sym knows) (subst (IsCallerOf n.layout (after_retirement (turns.known into.turner) (turns.known ended.turner))) (sym shown)
+          (caller-joined n.layout (turns.known into.turner) (turns.known ended.turner) into.caller ended.caller
+          (subst (λ (k : Knowledge PlaceNote). StartsWithBoth k.seen (turns.known into.turner).seen (turns.known ended.turner).seen) knows sees) is.caller gone.caller));
       sight = record {
-        own = subst (λ r. IfSome r (λ x. Reads n.layout Handed (home_of n.layout into.caller) x)) (sym own) is.sight.own;
+        own = subst (λ a. IfSome sight.reader (λ x. Reads n.layout Handed (creation_place n.layout a) x)) (sym (ap (λ (y : Seated). y.actor) shown))
+            (subst (λ r. IfSome r (λ x. Reads n.layout Handed (home_of n.layout into.caller) x)) (sym own) is.sight.own);
         spare = spare-inherited n.layout Handed keeps ended.sight.reader p (rows was) sight.spare.items low.0 (subst (λ b. AreSpare n.layout Handed (rows b)) (sym was_is) (spare-of (turns.known ended.turner).keeper))
             (subst (λ h. IfSome ended.sight.reader (λ x. Reads n.layout Handed h x)) (sym here) gone.sight.own) got;
         rows = λ k. inherited-count keeps ended.sight.reader p (rows was) sight.spare.items got ∙ ap (λ b. length (rows b)) was_is ∙ many (turns.known ended.turner).keeper refl (keeps_is ∙ k);
@@ -200,7 +205,7 @@ module _ (n : Nucleus) (ended into : Pass) (after : turner.Pass PlaceNote) (gone
     };
     knows = knows;
     sees = sees;
-    caller = refl;
+    caller = shown;
     worn = first;
     reader = own;
     readers = λ q at.

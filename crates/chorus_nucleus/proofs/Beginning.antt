@@ -4,7 +4,7 @@ use Rattle.std.proofs.Common.{ℕ, zero, suc, ◌≡◌, ◌≢◌, ◌+◌, ◌
 use Rattle.std.specs.List.{All}
 use Rattle.std.proofs.lemmas.Bool.{and_parts, and_from, le-leb, eq-eqb, false≢true}
 use Rattle.std.proofs.lemmas.List.{reverse-append}
-use Rattle.std.proofs.lemmas.List.Elements.{All-nil, All-cons, All-head, All-tail}
+use Rattle.std.proofs.lemmas.List.Elements.{All-nil, All-cons, All-head, All-tail, All-weaker}
 use Rattle.chorus_board.specs.declared.start.TheConstants.{READERS_PER_BOARD}
 use Rattle.std.proofs.lemmas.Option.{get_or_from_slice_get, slice_get_within}
 use Rattle.chorus_serve.specs.Desks.{in_hand}
@@ -35,10 +35,11 @@ use Rattle.chorus_nucleus.specs.declared.site_turns.site.Site.{Site}
 use Rattle.chorus_nucleus.specs.declared.site_turns.site.SiteMark.{SiteMark}
 use Rattle.chorus_nucleus.specs.SiteTurns.Sites as sites
 use Rattle.chorus_nucleus.specs.SiteTurns.Sites.{IsJournalOf, IsPublished}
-use Rattle.chorus_nucleus.specs.Passes.{AreSites, Reads, AreSpare, AreRoomy, row_at, readers_in, out_name, into_name}
+use Rattle.chorus_nucleus.specs.Passes.{AreSites, Reads, AreSpare, AreRoomy, row_at, readers_in, desk_of, out_name, into_name}
+use Rattle.chorus_nucleus.specs.Coming.{HasSeenNone}
 use Rattle.chorus_nucleus.specs.Starting.{IsFresh, AreItsReaders, AreFreshFrom, AreFresh, HaveStarted}
 use Rattle.chorus_nucleus.proofs.SiteTurns.Turning.{fits-as}
-use Rattle.chorus_nucleus.proofs.Called.{place-is, desk_of}
+use Rattle.chorus_nucleus.proofs.Called.{place-is}
 
 abbrev or-else : {A : Type 0} → A → Option A → A
 or-else x None = x
@@ -183,6 +184,7 @@ fresh-published l n r s f =
       of_place = f.board.1;
       published = ([], ap (λ es. es ++ []) f.board.2);
       begun = ([], ap (λ es. es ++ []) f.board.3);
+      silent = λ i e at from to. (let none = ap (λ (es : List Entry). length es) f.board.3 in absurd (omega (arith, none, to)));
     })))
 
 abbrev Begins : Site Ruled Packet → Type 0
@@ -251,6 +253,16 @@ fresh-spare l ss vs h = record { read = λ p low. by p low (slice_get vs (p - 1)
     rooms n [] (w ∷ ws) rs g = absurd g
     rooms n (u ∷ us) (w ∷ ws) [] g = absurd g
     rooms n (u ∷ us) (w ∷ ws) (r ∷ rs) g = All-cons (λ (row : Vec BoardReader). READERS_PER_BOARD ≤ vec_capacity row) w ws g.1.room (rooms (n + 1) us ws rs g.2)
+
+-- none has seen an entry
+pub fresh-new : (l : Layout) (ss : List (Site Ruled Packet)) (vs : List (Vec BoardReader)) → HaveStarted l ss vs → (p : ℕ) → 1 ≤ p → All HasSeenNone (row_at p vs)
+fresh-new l ss vs h p low = by (slice_get vs (p - 1)) refl
+  where
+    by : (o : Option (Vec BoardReader)) → slice_get vs (p - 1) ≡ o → All HasSeenNone (readers_in o)
+    by None e = All-nil HasSeenNone
+    by (Some v) e =
+        (let got = row-at l 1 (p - 1) ss vs h.ends v h.fresh e in
+        All-weaker (IsNewIn (book_of got.0.board) l (1 + (p - 1))) HasSeenNone (λ r is. is.3) v.items got.2.new)
 
 -- there is a row of readers for each place, and each has all
 pub fresh-rows : (l : Layout) (ss : List (Site Ruled Packet)) (vs : List (Vec BoardReader)) → HaveStarted l ss vs

@@ -30,6 +30,7 @@ use Rattle.law_machine.specs.Working.{opens, taught_of, told, report_of}
 use Rattle.law_machine.proofs.Machine.Stays.{act-stays, work-stays}
 use Rattle.law_history.specs.declared.turns.Input.{Input}
 use Rattle.law_history.specs.PlaceTurns.{turn}
+use Rattle.chorus_nucleus.specs.SiteTurns.Turning.{HasSeenMore}
 use Rattle.chorus_nucleus.specs.Calls.{Grows, Stays}
 
 abbrev calls : Turn → Calling × ℕ
@@ -168,7 +169,7 @@ packet-stays a k s w =
     (let t = begun_by s w k in let same = work-calls k t in let of = work-stays k t in
     record { seat = of.seat; actor = of.actor; posts = ap (λ z. z.1) same; given = ap (λ z. z.0.given) same })
 
-pub grows-none : (w x : Seated) → x ≡ w → Grows w x
+pub grows-none : (w x : Seated) → HasSeenMore w x → Grows w x
 grows-none w x e = record {
   seat = ap (λ (z : Seated). z.seat) e;
   actor = ap (λ (z : Seated). z.actor) e;
@@ -176,7 +177,7 @@ grows-none w x e = record {
   given = (let n = ap (λ (z : Seated). z.client.given) e in omega (arith, n));
 }
 
-pub stays-none : (w x : Seated) → x ≡ w → Stays w x
+pub stays-none : (w x : Seated) → HasSeenMore w x → Stays w x
 stays-none w x e = record {
   seat = ap (λ (z : Seated). z.seat) e;
   actor = ap (λ (z : Seated). z.actor) e;

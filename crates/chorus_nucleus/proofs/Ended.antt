@@ -43,12 +43,12 @@ module _ (n : Nucleus) (pass : Pass) (s : Shut) (is : IsShut n pass s) (h : Part
 
   pub ended : IsClosed n pass c
   ended =
-      let k = closes n.layout is.shape ds many is.log (turns.known pass.turner) c journals rest ports is.told closed-with in
+      let k = closes n.layout is.shape ds many is.log (turns.known pass.turner) c journals rest ports is.told is.behind closed-with in
       record {
         shape = is.shape;
         comers = k.0;
         closes = k.1;
-        for_actors = closes-for n.layout is.shape ds many is.log (turns.known pass.turner) c journals rest ports is.told closed-with;
+        for_actors = closes-for n.layout is.shape ds many is.log (turns.known pass.turner) c journals rest ports is.told is.behind closed-with;
         spent = s.spent;
         origin = subst (λ w. IsOfTurns s.spent w c) is.worn origin;
         left = is.left;

@@ -34,13 +34,8 @@ pub gave-turn : (l : Layout) (p : ℕ) (i : Input Command Packet) (s : PlaceStat
 gave-turn l p i s v u w x t =
     let r : PlaceNote = noted (machine l) p i s w in
     let news : List (Remarked PlaceNote) = remarked r (t.entry ∷ t.later) in
-    ap gave t.knows ∙ ap commands_given (turns_in-append v.mine (with_place p news) ∙ ap (λ ts. turns_in v.mine ++ ts) (turns_in-placed p news ∙ turns_at-remarked p r t.entry t.later))
+    ap gave t.knows ∙ ap commands_given (turns_in-append v.mine (with_place p v.seen news) ∙ ap (λ ts. turns_in v.mine ++ ts) (turns_in-placed p v.seen news ∙ turns_at-remarked p r t.entry t.later))
     ∙ given-append (turns_in v.mine) (_ ∷ [])
 
 pub gave-look : (l : Layout) (p : ℕ) (s : PlaceState) (v u : Knowledge PlaceNote) (w x : Seated) → Looks l p s v w u x → gave u ≡ gave v
 gave-look l p s v u w x t = ap gave t.knows ∙ ap (λ ms. commands_given (turns_in ms)) (append-nil v.mine)
-
-pub gave-pump : (l : Layout) (p : ℕ) (r : Pump) (v u : Knowledge PlaceNote) (w x : Seated) → Serves l p r v w u x → gave u ≡ gave v
-gave-pump l p (pumps.Served from) v u w x (inl t) = gave-turn l p (Input.Packet from t.1) t.0 v u w x t.2 ∙ append-nil (gave v)
-gave-pump l p (pumps.Served from) v u w x (inr t) = gave-look l p t.0 v u w x t.1
-gave-pump l p (pumps.Idle put worked) v u w x t = gave-look l p t.0 v u w x t.1

@@ -33,8 +33,8 @@ use Rattle.chorus_nucleus.specs.declared.pass.Pass.{Pass}
 use Rattle.chorus_nucleus.specs.declared.sight.Sight.{Sight}
 use Rattle.chorus_nucleus.specs.declared.fault.CallFault.{CallFault}
 use Rattle.chorus_nucleus.specs.Passes.{AreSites, Reads, IsSight, IsCallerOf, IsPassOf, mark_of}
-use Rattle.chorus_nucleus.specs.Calls.{answered, worn_after, IsCall, IsPump}
-use Rattle.chorus_nucleus.proofs.Called.{place-is, Turned, CallDone, call-done, PumpDone, pump-done}
+use Rattle.chorus_nucleus.specs.Calls.{answered, worn_after, IsCall, IsServe}
+use Rattle.chorus_nucleus.proofs.Called.{place-is, Turned, CallDone, call-done, ServeDone, serve-done}
 
 posts-call : (c : Command) → is_call c ≡ true → is_post c ≡ true
 posts-call (commands.Call q back body) h = refl
@@ -78,7 +78,7 @@ sight-kept l handed v u w x s t same keeper actor h =
 pub as-call : (n : Nucleus) (c : Command) (old : Pass) (before after : turner.Pass PlaceNote) (w x : Seated) (p : ℕ) (took : Option (Snapshot Place)) (done : Result (Result Reply PlaceFault) Busy)
     (r : Result Reply CallFault) (worn : Option ℕ) (sight : Sight) → IsPassOf n old → before ≡ old.turner → w ≡ old.caller → sight ≡ old.sight → p ≡ place_for n.layout old.caller.actor c → has_place n.layout p ≡ true
     → turns.IsPassOf n.turns after → IsSamePass (turns.known before) (turns.known after)
-    → IfOk done (λ out. Turned (turns.handed n.turns) (λ d e. Acted c took out w d) (NotesAct c took w x) p (turns.known before) (turns.known after))
+    → IfOk done (λ out. Turned (turns.handed n.turns) (λ d e. Acted c took out w x d) (NotesAct c took w x) p (turns.known before) (turns.known after))
     → IfErr done (λ b. FoundBusy p b.by (turns.known before) (turns.known after) × (x ≡ w)) → r ≡ answered done → worn ≡ worn_after old.worn r
     → IsCall n c old (record { turner = after; caller = x; worn = worn; sight = sight }) r
 as-call n c old before after w x p took done r worn sight is same caller seeing here has of standing ok busy answer noted =
@@ -107,19 +107,19 @@ as-call n c old before after w x p took done r worn sight is same caller seeing 
       sight = seeing;
     }
 
-pub as-pump : (n : Nucleus) (old : Pass) (before after : turner.Pass PlaceNote) (w x : Seated) (p : ℕ) (took : Option ℕ) (kept : Option (Snapshot Place)) (done : Result (Result Pump PlaceFault) Busy)
+pub as-serve : (n : Nucleus) (old : Pass) (before after : turner.Pass PlaceNote) (w x : Seated) (p : ℕ) (took : Option ℕ) (kept : Option (Snapshot Place)) (done : Result (Result Pump PlaceFault) Busy)
     (r : Result Pump CallFault) (worn : Option ℕ) (sight : Sight) → IsPassOf n old → before ≡ old.turner → w ≡ old.caller → sight ≡ old.sight → has_place n.layout p ≡ true
     → turns.IsPassOf n.turns after → IsSamePass (turns.known before) (turns.known after)
     → IfOk done (λ out. Turned (turns.handed n.turns) (λ d e. ServedAt took kept out w x d e) (NotesServe took kept w x) p (turns.known before) (turns.known after))
     → IfErr done (λ b. FoundBusy p b.by (turns.known before) (turns.known after) × (x ≡ w)) → r ≡ answered done → worn ≡ worn_after old.worn r
-    → IsPump n p old (record { turner = after; caller = x; worn = worn; sight = sight }) r
-as-pump n old before after w x p took kept done r worn sight is same caller seeing has of standing ok busy answer noted =
+    → IsServe n p old (record { turner = after; caller = x; worn = worn; sight = sight }) r
+as-serve n old before after w x p took kept done r worn sight is same caller seeing has of standing ok busy answer noted =
     let h : IsCallerOf n.layout (turns.known before) w = subst (λ q. IsCallerOf n.layout (turns.known q) w) (sym same) (subst (λ y. IsCallerOf n.layout (turns.known old.turner) y) (sym caller) is.caller) in
-    let got = pump-done n.layout (turns.handed n.turns) is.sites p (place-is n.layout p has) (turns.known before) (turns.known after) w x h took kept done ok busy in
-    let there : PumpDone n.layout p r (turns.known old.turner) old.caller (turns.known after) x =
-    subst (λ y. PumpDone n.layout p r (turns.known old.turner) y (turns.known after) x) caller
-    (subst (λ q. PumpDone n.layout p r (turns.known q) w (turns.known after) x) same
-    (subst (λ z. PumpDone n.layout p z (turns.known before) w (turns.known after) x) (sym answer) got)) in
+    let got = serve-done n is.sites p (place-is n.layout p has) (turns.known before) (turns.known after) w x h took kept done ok busy in
+    let there : ServeDone n p r (turns.known old.turner) old.caller (turns.known after) x =
+    subst (λ y. ServeDone n p r (turns.known old.turner) y (turns.known after) x) caller
+    (subst (λ q. ServeDone n p r (turns.known q) w (turns.known after) x) same
+    (subst (λ z. ServeDone n p z (turns.known before) w (turns.known after) x) (sym answer) got)) in
     let stands = subst (λ q. IsSamePass (turns.known q) (turns.known after)) same standing in
     record {
       pass = record {

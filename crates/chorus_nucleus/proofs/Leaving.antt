@@ -29,9 +29,8 @@ use Rattle.chorus_nucleus.specs.SiteTurns.Sites.{entries, Fits, IsPublished}
 use Rattle.chorus_nucleus.proofs.SiteTurns.Turning.{fits-as}
 use Rattle.chorus_nucleus.specs.Apart.{desk_at, ends_of, ends_at, held_from, waits_to, left_between, goes_from, AreDesksLinked}
 use Rattle.chorus_nucleus.proofs.Pairs.{link-same}
-use Rattle.chorus_nucleus.specs.Passes.{AreSites, IsCallerOf, mark_of, out_name, into_name}
+use Rattle.chorus_nucleus.specs.Passes.{AreSites, IsCallerOf, desk_of, mark_of, out_name, into_name}
 use Rattle.chorus_nucleus.specs.Leaving.{desks_in, state_of, sent_of, waits_of, received_of, held_of, AreSettled, left_at, AreClosedWith}
-use Rattle.chorus_nucleus.proofs.Called.{desk_of}
 use Rattle.chorus_nucleus.proofs.Beginning.{named-at, same-some}
 
 pub place-has : (l : Layout) (p : ℕ) → IsPlace (places l) p → has_place l p ≡ true

@@ -1,5 +1,7 @@
 -- What was closed is the network of each schedule of its turns.
 use Rattle.std.proofs.Common.{ℕ, zero, suc, ◌≡◌, ◌+◌, ◌-◌, ◌<◌, List, [], ◌∷◌, length, map, reverse, Some, slice_get, refl, sym, ◌∙◌, ap, arith}
+use Rattle.std.specs.List.{All}
+use Rattle.std.proofs.lemmas.List.Elements.{All-weaker}
 use Rattle.chorus_ui.specs.declared.layout.Layout.{Layout}
 use Rattle.chorus_ui.specs.Layout.{places, IsLayout}
 use Rattle.chorus_entry.specs.declared.entry.Entry.{Entry}
@@ -9,14 +11,18 @@ use Rattle.chorus_place.specs.Calls.{Place, state}
 use Rattle.chorus_ruled_ends.specs.Ruled.{Ruled}
 use Rattle.chorus_serve.specs.Desks.{DeskOf}
 use Rattle.chorus_turn.specs.declared.knowledge.Remarked.{Remarked}
+use Rattle.chorus_turn.specs.declared.knowledge.Note.{Note}
 use Rattle.chorus_turn.specs.declared.knowledge.Knowledge.{Knowledge}
 use Rattle.chorus_turn.specs.Journals.{entries_of}
 use Rattle.law_network.specs.Left as left
 use Rattle.law_network.specs.Network.{schedule, numbers}
+use Rattle.law_history.specs.PlaceTurns.{machine}
 use Rattle.law_history.specs.Journals.{PlaceTurn, Comer, IsTheirSchedule, events}
 use Rattle.law_history.specs.Places.{by_link}
 use Rattle.law_history.proofs.Listed.{schedules-leave-lists}
-use Rattle.law_closing.specs.Places.{PlaceNote, HaveHistories}
+use Rattle.law_closing.specs.Closing.{IsThread}
+use Rattle.law_closing.specs.Places.{PlaceNote, HaveHistories, is_new}
+use Rattle.law_closing.specs.Behind.{AllStandBehind, AreAtPlaces}
 use Rattle.law_closing.proofs.Places.{closed-places}
 use Rattle.law_closing.proofs.Actors.{closed-places-in}
 use Rattle.chorus_net.specs.declared.closed.Closed.{Closed}
@@ -54,7 +60,7 @@ journal-at (d ∷ ds) (suc k) journal e = journal-at ds k journal e
 
 module _ (l : Layout) (shape : IsLayout l) (ds : List (DeskOf Ruled Packet)) (many : length ds ≡ places l) (log : ℕ → List (Remarked PlaceNote)) (v : Knowledge PlaceNote) (c : Closed)
     (journals : closed_journals c ≡ journals_in (places_in ds)) (rest : c.rest.items ≡ by_link (places l) (goes_from ds)) (ports : c.ports.items ≡ ports_of (places_in ds))
-    (told : (k : ℕ) (d : DeskOf Ruled Packet) → slice_get ds k ≡ Some d → entries_of (log (k + 1)) ≡ reverse d.place.journal) where
+    (told : (k : ℕ) (d : DeskOf Ruled Packet) → slice_get ds k ≡ Some d → entries_of (log (k + 1)) ≡ reverse d.place.journal) (behind : AllStandBehind v) where
   abbrev Histories : Type 0
   Histories = HaveHistories l log v (λ p. state_of l p (desk_at p ds)) (λ a b. waits_of l a (log a) (desk_at a ds) b) (λ a b. held_of l b (desk_at b ds) a) (left_at ds)
 
@@ -82,6 +88,10 @@ module _ (l : Layout) (shape : IsLayout l) (ds : List (DeskOf Ruled Packet)) (ma
       let k = journal-at ds p journal (ap (λ js. slice_get js p) (sym journals) ∙ is) in
       k.2 ∙ sym (told p k.0 k.1)
 
+  -- each thread is at places
+  all-within : (ns : List (Note PlaceNote)) → All (λ (n : Note PlaceNote). IsThread (machine l) (is_new l) (places l) n.seat n.mine) ns → All (λ (n : Note PlaceNote). AreAtPlaces (places l) n.mine) ns
+  all-within ns h = All-weaker (λ (n : Note PlaceNote). IsThread (machine l) (is_new l) (places l) n.seat n.mine) (λ (n : Note PlaceNote). AreAtPlaces (places l) n.mine) (λ n t. t.within) ns h
+
   closes-as : AreClosedWith l log v ds (left_at ds) → (h : Histories) → ClosesAs l v h.comers c
   closes-as is h = record {
     log = log;
@@ -95,6 +105,9 @@ module _ (l : Layout) (shape : IsLayout l) (ds : List (DeskOf Ruled Packet)) (ma
     made = h.made;
     mine = h.mine;
     noted = h.noted;
+    within = is.thread.within;
+    noted_within = all-within v.notes is.threads;
+    behind = behind;
     is_left = left-is h;
   }
 

@@ -1,5 +1,6 @@
 pub mod Counting
 pub mod Gave
+pub mod Behind
 pub mod Threads
 pub mod Called
 pub mod Joined
@@ -9,9 +10,11 @@ pub mod Arriving
 pub mod Beginning
 pub mod Opening
 pub mod Publishing
+pub mod Pumping
 pub mod Leaving
 pub mod Left
 pub mod Ended
+pub mod Following
 pub mod Running
 pub mod TakeTurns
 pub mod Trying

@@ -1,6 +1,6 @@
 -- The nucleus that has started.
 -- l is the layout, ss are the places, vs the readers of their boards, n is the nucleus, a the first actor, w its caller, r the reader that was taken.
-use Rattle.std.proofs.Common.{ℕ, ◌≡◌, ◌<◌, ◌+◌, ◌*◌, ◌==◌, true, cond, List, length, Option, Some, None, is_some, IfSome, refl, sym, ◌∙◌, ap, subst, inl, inr, arith}
+use Rattle.std.proofs.Common.{◌≤◌, All, ℕ, ◌≡◌, ◌<◌, ◌+◌, ◌*◌, ◌==◌, true, cond, List, length, Option, Some, None, is_some, IfSome, refl, sym, ◌∙◌, ap, subst, inl, inr, arith}
 use Rattle.std.proofs.Math.Nat.{zero-mod, mul-pos}
 use Rattle.std.specs.Global.{Vec}
 use Rattle.std.proofs.lemmas.Bool.{false≢true, eq-eqb, ne_eqb, cases_eq}
@@ -26,10 +26,10 @@ use Rattle.chorus_nucleus.specs.declared.pass.Pass.{Pass}
 use Rattle.chorus_nucleus.specs.Passes.{AreSites, AreSpare, Reads, IsCallerOf, row_at, readers_at, home_of}
 use Rattle.chorus_nucleus.specs.Readers.{Taken, TakesReader}
 use Rattle.chorus_nucleus.specs.Starting.{HaveStarted}
-use Rattle.chorus_nucleus.specs.Coming.{IsStarted}
-use Rattle.chorus_nucleus.proofs.Sights.{spare-taken, taken-count}
+use Rattle.chorus_nucleus.specs.Coming.{IsStarted, HasSeenNone}
+use Rattle.chorus_nucleus.proofs.Sights.{rows-taken, spare-taken, taken-count}
 use Rattle.chorus_nucleus.proofs.Threads.{caller-opens}
-use Rattle.chorus_nucleus.proofs.Beginning.{fresh-sites, fresh-spare, fresh-rows, first-is}
+use Rattle.chorus_nucleus.proofs.Beginning.{fresh-sites, fresh-spare, fresh-new, fresh-rows, first-is}
 
 first-home : (l : Layout) → creation_place l first_actor ≡ 1
 first-home l = (let z = zero-mod l.turns in let m : 0 * l.turns ≡ 0 = omega arith in omega (arith, z, m))
@@ -58,6 +58,9 @@ module _ (l : Layout) (shape : IsLayout l) (ss : List (Site Ruled Packet)) (vs :
 
   spared : AreSpare l ss rows.items × IfSome r (λ x. Reads l ss 1 x)
   spared = spare-taken l ss 1 vs rows.items r (omega arith) (fresh-spare l ss vs h) took
+
+  unread : ((q : ℕ) → 1 ≤ q → All HasSeenNone (row_at q rows.items)) × IfSome r HasSeenNone
+  unread = rows-taken (λ q. HasSeenNone) 1 vs rows.items r (omega arith) (fresh-new l ss vs h) took
 
   caller-is : IsCallerOf l (turns.known turner) w
   caller-is =
@@ -97,4 +100,6 @@ module _ (l : Layout) (shape : IsLayout l) (ss : List (Site Ruled Packet)) (vs :
     worn = refl;
     own = is-some;
     readers = counted;
+    own_new = unread.1;
+    new = unread.0;
   }

@@ -8,10 +8,12 @@ use Rattle.chorus_entry.specs.declared.entry.Entry.{Entry}
 use Rattle.chorus_world.specs.Runs.{is_run}
 use Rattle.chorus_world.specs.Commands.{performs}
 use Rattle.chorus_world.specs.Always.{Always, EachEntry}
-use Rattle.chorus_world.specs.AcceptedLaws.{ReceivesInOrder, KeepsEachMessage}
+use Rattle.chorus_world.specs.AcceptedLaws.{ReceivesInOrder}
 use Rattle.chorus_world.specs.SenderLaws.{KeepsSenderOrder}
 use Rattle.chorus_world.specs.RequestLaws.{AcceptsRequestsOnce}
 use Rattle.chorus_world.specs.GroupLaws.{ReachesOneMember, AcceptsOnSite, KeepsChoiceOrder}
+use Rattle.chorus_world.proofs.Moments.{always-run}
+use Rattle.chorus_world.proofs.Sorted.Holders.{run_is_legal}
 use Rattle.chorus_merge.specs.Merge.{merged}
 use Rattle.chorus_turn.specs.declared.knowledge.Note.{Note}
 use Rattle.chorus_turn.specs.declared.knowledge.Knowledge.{Knowledge}
@@ -20,6 +22,8 @@ use Rattle.law_network.specs.Network.{NetState, schedule}
 use Rattle.law_network.specs.Left.{merged_past, placed, packets_left}
 use Rattle.law_network.specs.Holdings.{Holding, StandsFor, holdings_left}
 use Rattle.law_network.specs.EachMessage.{HoldEachMessage}
+use Rattle.law_network.specs.Fates.{WorldHolds}
+use Rattle.law_network.proofs.Holdings.ByFate.{holds-by-fate, world-holds}
 use Rattle.law_network.specs.Quiet.{IsQuiet}
 use Rattle.law_network.proofs.Promises.AllPromises.{closed-hold-each}
 use Rattle.law_history.specs.Journals.{Comer, PlaceTurn, events}
@@ -30,6 +34,7 @@ use Rattle.law_closing.specs.Remarks.{turns_in}
 use Rattle.chorus_net.specs.declared.closed.Closed.{Closed}
 use Rattle.chorus_net.specs.Closing.{IsLeft, holdings_of, past_of}
 use Rattle.chorus_nucleus.specs.Closing.{ClosesAs}
+use Rattle.chorus_nucleus.proofs.Following.{all-follow}
 use Rattle.chorus_nucleus.specs.Runs.{PerformsFor, IsARun, AClosedNucleusIsARun, EachMessageStandsOnce}
 
 none-left : (os : List Outgoing) → map (λ (o : Outgoing). o.packet) os ≡ [] → os ≡ []
@@ -74,15 +79,23 @@ module _ (l : Layout) (v : Knowledge PlaceNote) (comers : List Comer) (c : Close
       (performed m.seat (turns_in m.mine) (All-head (λ (m : Note PlaceNote). k.of_seats m.seat ≡ turns_in m.mine) m ms h))
       (noted ms (All-tail (λ (m : Note PlaceNote). k.of_seats m.seat ≡ turns_in m.mine) m ms h))
 
+  is-run : is_run l (actor_among comers) (past_of c) ≡ true
+  is-run = subst (λ es. is_run l (actor_among comers) es ≡ true) merge run.run
+
+  stands-for : StandsFor (past_of c) (holdings_of l c)
+  stands-for = handed StandsFor kept.promises.left
+
   pub is-a-run : IsARun l v comers c
   is-a-run = record {
-    run = subst (λ es. is_run l (actor_among comers) es ≡ true) merge run.run;
+    run = is-run;
     performed = performed v.seat (turns_in v.mine) k.mine;
     noted = noted v.notes k.noted;
-    stands = handed StandsFor kept.promises.left;
+    follows = all-follow l v comers c k shape (events comers kept.turns) kept.scheduled.may left;
+    stands = stands-for;
     quiet = λ none. (let gone : packets_left n ≡ [] = sym left.rest ∙ none in subst (λ es. IsQuiet l es []) same-past (subst (IsQuiet l (merged_past n)) gone (kept.promises.quiet (none-left n.packets gone))));
     receives = subst (Always ReceivesInOrder) same-past kept.promises.receives;
-    fates = subst (Always KeepsEachMessage) same-past kept.promises.fates;
+    holds = always-run WorldHolds world-holds l (actor_among comers) (past_of c) shape is-run;
+    left = holds-by-fate l (past_of c) shape (run_is_legal l (actor_among comers) (past_of c) is-run) (holdings_of l c) stands-for;
     sender_order = subst (Always KeepsSenderOrder) same-past kept.promises.sender_order;
     once = subst (Always AcceptsRequestsOnce) same-past kept.promises.once;
     one_member = subst (Always ReachesOneMember) same-past kept.promises.one_member;

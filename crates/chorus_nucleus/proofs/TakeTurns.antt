@@ -39,14 +39,16 @@ use Rattle.chorus_nucleus.specs.declared.fault.CallFault.{CallFault}
 use Rattle.chorus_nucleus.specs.declared.fault.CallFault.TheVariants as faults
 use Rattle.chorus_nucleus.specs.declared.nucleus.Nucleus.{Nucleus}
 use Rattle.chorus_nucleus.specs.declared.pass.Pass.{Pass}
+use Rattle.chorus_nucleus.specs.SiteTurns.Turning.{HasSeenMore}
+use Rattle.chorus_nucleus.proofs.Behind.{more-up}
 use Rattle.chorus_nucleus.specs.Passes.{layout_of, known, caller_of, worn_by}
-use Rattle.chorus_nucleus.specs.Calls.{FindsWorn, Because, Performs, IsCall, place_of, worn_after}
+use Rattle.chorus_nucleus.specs.Calls.{Because, Performs, IsCall, place_of, worn_after}
 use Rattle.chorus_nucleus.specs.declared.taken_message.TakenMessage.{TakenMessage}
 use Rattle.chorus_nucleus.specs.Taking.{acts_made, Appends, HasOrigin, SeesMore, KeepsPass, IsByTakes, TakesOn, IsTake}
 
-made-acts : (p k : ℕ) (r : PlaceNote) (es : List Entry) → acts_made (with_place p (numbered k r es)) ≡ acts_of es
-made-acts p k r [] = refl
-made-acts p k r (e ∷ es) = ap (λ zs. e.act ∷ zs) (made-acts p (k + 1) r es)
+made-acts : (p k : ℕ) (seen : List (List (Remarked PlaceNote))) (r : PlaceNote) (es : List Entry) → acts_made (with_place p seen (numbered k r es)) ≡ acts_of es
+made-acts p k seen r [] = refl
+made-acts p k seen r (e ∷ es) = ap (λ zs. e.act ∷ zs) (made-acts p (k + 1) seen r es)
 
 -- What a pass has seen grows.
 
@@ -65,7 +67,7 @@ sees-turn p found news v u knows starts k = sees-put p (found ++ news) v u.seen 
 pub sees-same : (v u : Knowledge PlaceNote) → u.seen ≡ v.seen → SeesMore v u
 sees-same v u same k = starts_same (seen_at k v) (seen_at k u) (seen_at k v) (ap (λ row. list_at k row) same) (starts_itself (seen_at k v))
 
-sees-fault : (l : Layout) (p : ℕ) (f : CallFault) (v : Knowledge PlaceNote) (w : Seated) (u : Knowledge PlaceNote) (x : Seated) → Because FindsWorn f l p v w u x → SeesMore v u
+sees-fault : (l : Layout) (p : ℕ) (f : CallFault) (v : Knowledge PlaceNote) (w : Seated) (u : Knowledge PlaceNote) (x : Seated) → Because f l p v w u x → SeesMore v u
 sees-fault l p (faults.Busy by) v w u x b = sees-same v u (ap (λ (z : Knowledge PlaceNote). z.seen) b.0.knows)
 sees-fault l p (faults.Memory none) v w u x b = sees-turn p b.1.found [] v u b.1.knows b.1.shows.begins
 sees-fault l p (faults.Worn clock) v w u x b = sees-turn p b.looks.found [] v u b.looks.knows b.looks.shows.begins
@@ -83,9 +85,9 @@ module _ (l : Layout) (p : ℕ) (q : Ui) (r : Reply) (v u : Knowledge PlaceNote)
 
   pub appends : Appends (taken_acts q r) v u
   appends = record {
-    news = with_place p (remarked _ all);
+    news = with_place p v.seen (remarked _ all);
     grown = ap (λ (z : Knowledge PlaceNote). z.mine) h.turn.knows;
-    acts_are = made-acts p 0 _ all ∙ told.0;
+    acts_are = made-acts p 0 v.seen _ all ∙ told.0;
   }
 
   pub is-answer : answers_take r ≡ true
@@ -113,17 +115,17 @@ module _ (l : Layout) (p : ℕ) (q : Ui) (r : Reply) (v u : Knowledge PlaceNote)
 abbrev IsIn : Ui → Placed PlaceNote → Type 0
 IsIn actor m = m.remarked.remark.before.actor ≡ actor
 
-placed-at : (p k : ℕ) (r : PlaceNote) (es : List Entry) → All (λ (m : Placed PlaceNote). m.place ≡ p) (with_place p (numbered k r es))
-placed-at p k r [] = All-nil (λ (m : Placed PlaceNote). m.place ≡ p)
-placed-at p k r (e ∷ es) =
-    All-cons (λ (m : Placed PlaceNote). m.place ≡ p) (record { place = p; remarked = record { entry = e; remark = record r { nth = k } } }) (with_place p (numbered (k + 1) r es)) refl
-    (placed-at p (k + 1) r es)
+placed-at : (p k : ℕ) (seen : List (List (Remarked PlaceNote))) (r : PlaceNote) (es : List Entry) → All (λ (m : Placed PlaceNote). m.place ≡ p) (with_place p seen (numbered k r es))
+placed-at p k seen r [] = All-nil (λ (m : Placed PlaceNote). m.place ≡ p)
+placed-at p k seen r (e ∷ es) =
+    All-cons (λ (m : Placed PlaceNote). m.place ≡ p) (record { place = p; seen = seen; remarked = record { entry = e; remark = record r { nth = k } } }) (with_place p seen (numbered (k + 1) r es)) refl
+    (placed-at p (k + 1) seen r es)
 
-placed-in : (p k : ℕ) (r : PlaceNote) (es : List Entry) → AreIn r.before.actor (with_place p (numbered k r es))
-placed-in p k r [] = All-nil (IsIn r.before.actor)
-placed-in p k r (e ∷ es) =
-    All-cons (IsIn r.before.actor) (record { place = p; remarked = record { entry = e; remark = record r { nth = k } } }) (with_place p (numbered (k + 1) r es)) refl
-    (placed-in p (k + 1) r es)
+placed-in : (p k : ℕ) (seen : List (List (Remarked PlaceNote))) (r : PlaceNote) (es : List Entry) → AreIn r.before.actor (with_place p seen (numbered k r es))
+placed-in p k seen r [] = All-nil (IsIn r.before.actor)
+placed-in p k seen r (e ∷ es) =
+    All-cons (IsIn r.before.actor) (record { place = p; seen = seen; remarked = record { entry = e; remark = record r { nth = k } } }) (with_place p seen (numbered (k + 1) r es)) refl
+    (placed-in p (k + 1) seen r es)
 
 first-above : (clock : ℕ) (mine news : List (Placed PlaceNote)) (n : Placed PlaceNote) (more : List (Placed PlaceNote)) → news ≡ n ∷ more → clock < n.remarked.entry.clock
     → ((m : Placed PlaceNote) (rest : List (Placed PlaceNote)) → mine ≡ m ∷ rest → clock < m.remarked.entry.clock)
@@ -138,7 +140,7 @@ module _ (l : Layout) (p : ℕ) (q : Ui) (r : Reply) (v u : Knowledge PlaceNote)
   remark = noted (machine l) p (Input.Command (Command.Take q)) h.state w
 
   abbrev news : List (Placed PlaceNote)
-  news = with_place p (remarked remark (h.turn.entry ∷ h.turn.later))
+  news = with_place p v.seen (remarked remark (h.turn.entry ∷ h.turn.later))
 
   grown : u.mine ≡ v.mine ++ news
   grown = ap (λ (z : Knowledge PlaceNote). z.mine) h.turn.knows
@@ -146,28 +148,28 @@ module _ (l : Layout) (p : ℕ) (q : Ui) (r : Reply) (v u : Knowledge PlaceNote)
   one-turn : turns_in u.mine ≡ turns_in v.mine ++ turn_of p (record { entry = h.turn.entry; remark = remark }) ∷ []
   one-turn =
       ap turns_in grown ∙ turns_in-append v.mine news
-      ∙ ap (λ ts. turns_in v.mine ++ ts) (turns_in-placed p (remarked remark (h.turn.entry ∷ h.turn.later)) ∙ turns_at-remarked p remark h.turn.entry h.turn.later)
+      ∙ ap (λ ts. turns_in v.mine ++ ts) (turns_in-placed p v.seen (remarked remark (h.turn.entry ∷ h.turn.later)) ∙ turns_at-remarked p remark h.turn.entry h.turn.later)
 
   pub by-takes : (clock : ℕ) → clock ≤ w.last → p ≡ place_for l w.actor (Command.Take q) → IsByTakes l q w.actor clock v.mine → IsByTakes l q w.actor clock u.mine
   by-takes clock le place i =
-      let at : All (λ (m : Placed PlaceNote). m.place ≡ place_for l w.actor (Command.Take q)) news = subst (λ z. All (λ (m : Placed PlaceNote). m.place ≡ z) news) place (placed-at p 0 remark (h.turn.entry ∷ h.turn.later)) in
+      let at : All (λ (m : Placed PlaceNote). m.place ≡ place_for l w.actor (Command.Take q)) news = subst (λ z. All (λ (m : Placed PlaceNote). m.place ≡ z) news) place (placed-at p 0 v.seen remark (h.turn.entry ∷ h.turn.later)) in
       let above = h.turn.above in
       let T = λ (t : PlaceTurn). t.input ≡ Input.Command (Command.Take q) in
       record {
         places = subst (All (λ (m : Placed PlaceNote). m.place ≡ place_for l w.actor (Command.Take q))) (sym grown) (All-append (λ (m : Placed PlaceNote). m.place ≡ place_for l w.actor (Command.Take q)) v.mine news i.places at);
-        within = subst (AreIn w.actor) (sym grown) (All-append (IsIn w.actor) v.mine news i.within (placed-in p 0 remark (h.turn.entry ∷ h.turn.later)));
+        within = subst (AreIn w.actor) (sym grown) (All-append (IsIn w.actor) v.mine news i.within (placed-in p 0 v.seen remark (h.turn.entry ∷ h.turn.later)));
         turns = subst (All T) (sym one-turn) (All-append T (turns_in v.mine) (turn_of p (record { entry = h.turn.entry; remark = remark }) ∷ []) i.turns (All-cons T (turn_of p (record { entry = h.turn.entry; remark = remark })) [] refl (All-nil T)));
         first = λ m rest e. first-above clock v.mine news
-            (record { place = p; remarked = record { entry = h.turn.entry; remark = record remark { nth = 0 } } }) (with_place p (numbered 1 remark h.turn.later)) refl (omega (arith, le, above)) i.first m rest (sym grown ∙ e);
+            (record { place = p; seen = v.seen; remarked = record { entry = h.turn.entry; remark = record remark { nth = 0 } } }) (with_place p v.seen (numbered 1 remark h.turn.later)) refl (omega (arith, le, above)) i.first m rest (sym grown ∙ e);
       }
 
   pub clock-rises : w.last ≤ x.last
   clock-rises = let above = h.turn.above in let upto = h.turn.upto in omega (arith, above, upto)
 
--- nothing was made, and the caller is as it was
-pub takes-nothing : (n : Nucleus) (q : Ui) (a b : Pass) → (known b).mine ≡ (known a).mine → caller_of b ≡ caller_of a → TakesOn n q a b
+-- nothing was made, and the caller is as it was, but for what it was shown
+pub takes-nothing : (n : Nucleus) (q : Ui) (a b : Pass) → (known b).mine ≡ (known a).mine → HasSeenMore (caller_of a) (caller_of b) → TakesOn n q a b
 takes-nothing n q a b mine caller = record {
-  last = (let e = ap (λ (w : Seated). w.last) caller in omega (arith, e));
+  last = more-up (caller_of a) (caller_of b) caller;
   takes = λ clock le i. subst (IsByTakes (layout_of n) q (caller_of a).actor clock) (sym mine) i;
 }
 

@@ -15,10 +15,12 @@ use Rattle.law_closing.specs.Places.{PlaceNote}
 use Rattle.chorus_nucleus.specs.declared.fault.CallFault.{CallFault}
 use Rattle.chorus_nucleus.specs.declared.nucleus.Nucleus.{Nucleus}
 use Rattle.chorus_nucleus.specs.declared.pass.Pass.{Pass}
+use Rattle.chorus_nucleus.specs.SiteTurns.Turning.{HasSeenMore}
 use Rattle.chorus_nucleus.specs.Passes.{layout_of, known, caller_of, worn_by, IsPassOf}
-use Rattle.chorus_nucleus.specs.Calls.{FindsWorn, Because, worn_after}
+use Rattle.chorus_nucleus.specs.Calls.{Because, worn_after}
 use Rattle.chorus_nucleus.specs.declared.taken_message.TakenMessage.{TakenMessage}
 use Rattle.chorus_nucleus.specs.Taking.{acts_made, Appends, HasOrigin, Answers, SeesMore, KeepsPass, IsByTakes, TakesOn, IsFault, IsTake}
+use Rattle.chorus_nucleus.proofs.Behind.{more-itself}
 use Rattle.chorus_nucleus.proofs.TakeTurns.{sees-same, takes-nothing}
 
 -- Entries.
@@ -110,7 +112,7 @@ pub waited-more : (n : Nucleus) (q : Ui) (by : ℕ) (a b c : Pass) → Waited n 
 waited-more n q by a b c w t = record {
   keeps = keeps-then n a b c w.keeps t.keeps;
   mine = t.fault.mine ∙ w.mine;
-  caller = t.fault.caller ∙ w.caller;
+  caller = t.fault.because.1 ∙ w.caller;
   worn = t.worn ∙ worn-busy (worn_by b) by ∙ w.worn;
 }
 
@@ -122,22 +124,22 @@ fault-from : (n : Nucleus) (q : Ui) (f : CallFault) (a b c : Pass) → Waited n 
 fault-from n q f a b c w h = record {
   tried = h.tried;
   before = h.before ∙ w.mine;
-  because = subst (λ caller. Because FindsWorn f (layout_of n) (place_for (layout_of n) caller.actor (Command.Take q)) h.tried caller (known c) (caller_of c)) w.caller h.because;
+  because = subst (λ caller. Because f (layout_of n) (place_for (layout_of n) caller.actor (Command.Take q)) h.tried caller (known c) (caller_of c)) w.caller h.because;
   mine = h.mine ∙ w.mine;
-  caller = h.caller ∙ w.caller;
+  caller = subst (λ z. HasSeenMore z (caller_of c)) w.caller h.caller;
 }
 
 pub take-after : (n : Nucleus) (q : Ui) (r : Result (Option TakenMessage) CallFault) (a b c : Pass) → Waited n a b → IsTake n q r b c → IsTake n q r a c
 take-after n q (Ok t) a b c w h = record {
   keeps = keeps-then n a b c w.keeps h.keeps;
-  goes = takes-then n q a b c w.keeps.actor (takes-nothing n q a b w.mine w.caller) h.goes;
+  goes = takes-then n q a b c w.keeps.actor (takes-nothing n q a b w.mine (subst (HasSeenMore (caller_of a)) (sym w.caller) (more-itself (caller_of a)))) h.goes;
   answer = answers-from (layout_of n) q t (known a) (known b) (known c) w.mine h.answer;
   fault = tt;
   worn = h.worn ∙ ap (λ o. worn_after {T = Option TakenMessage} o (Ok t)) w.worn;
 }
 take-after n q (Err f) a b c w h = record {
   keeps = keeps-then n a b c w.keeps h.keeps;
-  goes = takes-then n q a b c w.keeps.actor (takes-nothing n q a b w.mine w.caller) h.goes;
+  goes = takes-then n q a b c w.keeps.actor (takes-nothing n q a b w.mine (subst (HasSeenMore (caller_of a)) (sym w.caller) (more-itself (caller_of a)))) h.goes;
   answer = tt;
   fault = fault-from n q f a b c w h.fault;
   worn = h.worn ∙ ap (λ o. worn_after {T = Option TakenMessage} o (Err f)) w.worn;

@@ -22,25 +22,27 @@ use Rattle.chorus_place.specs.declared.fault.PlaceFault.{PlaceFault}
 use Rattle.chorus_place.specs.declared.fault.PlaceFault.TheVariants as faults
 use Rattle.chorus_serve.specs.declared.served.Pump.{Pump}
 use Rattle.chorus_serve.specs.declared.served.Pump.TheVariants as pumps
-use Rattle.chorus_serve.specs.Desks.{DeskState}
 use Rattle.chorus_serve.specs.Serving.{KeepsInHand, IsIdle, IsWornBy, AreEmptied}
 use Rattle.chorus_turn.specs.declared.turns.Busy.{Busy}
 use Rattle.chorus_turn.specs.declared.knowledge.Remarked.{Remarked}
 use Rattle.chorus_turn.specs.declared.knowledge.Knowledge.{Knowledge}
 use Rattle.chorus_turn.specs.Knowing.{IsSamePass}
+use Rattle.chorus_turn.specs.Passes as turns
 use Rattle.chorus_turn.specs.Calls.{FoundBusy}
+use Rattle.chorus_ruled_ends.specs.Ruled.{Ruled}
 use Rattle.law_history.specs.declared.turns.Input.{Input}
 use Rattle.law_history.specs.Counts.{put_count, got_count}
 use Rattle.law_history.specs.Runs.{commands_given}
 use Rattle.law_closing.specs.Remarks.{turns_at, turns_in}
 use Rattle.law_closing.specs.Places.{PlaceNote}
 use Rattle.chorus_nucleus.specs.SiteTurns.Sites.{IsJournalOf}
-use Rattle.chorus_nucleus.specs.SiteTurns.Turning.{TakesTurn, Looks, MayWork}
+use Rattle.chorus_nucleus.specs.SiteTurns.Turning.{HasSeenMore, TakesTurn, Looks, MayWork}
 use Rattle.chorus_nucleus.specs.declared.fault.CallFault.{CallFault}
 use Rattle.chorus_nucleus.specs.declared.fault.CallFault.TheVariants as call_faults
 use Rattle.chorus_nucleus.specs.declared.nucleus.Nucleus.{Nucleus}
 use Rattle.chorus_nucleus.specs.declared.pass.Pass.{Pass}
-use Rattle.chorus_nucleus.specs.Passes.{layout_of, known, caller_of, worn_by, sight_of, home_of, IsPassOf}
+use Rattle.chorus_nucleus.specs.declared.site_turns.site.Site.{Site}
+use Rattle.chorus_nucleus.specs.Passes.{layout_of, known, caller_of, worn_by, sight_of, home_of, desk_of, mark_of, IsPlaceOf, IsPassOf}
 
 abbrev pub fault_of : PlaceFault → CallFault
 fault_of (faults.Memory none) = call_faults.Memory none
@@ -99,34 +101,42 @@ pub record FindsWorn (l : Layout) (p clock : ℕ) (v : Knowledge PlaceNote) (w :
   pub worn : CLOCK_LIMIT ≤ clock
   pub greatest : clock ≡ greatest_clock (begun state w)
 
--- The desk of the place before and after a turn that found this journal: what waited there was sent, or a link was
--- found full.
-pub record AreDesks (l : Layout) (p : ℕ) (found : List (Remarked PlaceNote)) (d e : DeskState) : Type 0 where
-  pub layout : d.place.layout ≡ l
-  pub number : d.place.number ≡ p
-  pub journal : IsJournalOf d found
-  pub emptied : AreEmptied d e
+-- why a command was refused: another pass held the place; or it looked at the place, and found no memory, with both
+-- clocks below the limit, or a worn clock
+abbrev pub Because : CallFault → Layout → ℕ → Knowledge PlaceNote → Seated → Knowledge PlaceNote → Seated → Type 0
+Because (call_faults.Busy by) l p v w u x = FoundBusy p by v u × (x ≡ w)
+Because (call_faults.Memory none) l p v w u x =
+    (s : PlaceState) × Looks l p s v w u x × (greatest_clock (begun s w) < CLOCK_LIMIT)
+Because (call_faults.Worn clock) l p v w u x = FindsWorn l p clock v w u x
+
+-- The place of this number, of those that were handed in, before and after a turn that found this journal: what waited
+-- there was sent, or a link was found full.
+pub record IsServedAt (handed : List (Site Ruled Packet)) (p : ℕ) (found : List (Remarked PlaceNote))
+    (before after : Site Ruled Packet) : Type 0 where
+  pub place : IsPlaceOf handed p before
+  pub same : mark_of after ≡ mark_of before
+  pub journal : IsJournalOf (desk_of before) found
+  pub emptied : AreEmptied (desk_of before) (desk_of after)
 
 -- a look at the place found the greatest of these clocks and of that of the packet in hand at the limit
-pub record FindsWornBy (l : Layout) (p clock : ℕ) (v : Knowledge PlaceNote) (w : Seated)
+pub record FindsWornBy (n : Nucleus) (p clock : ℕ) (v : Knowledge PlaceNote) (w : Seated)
     (u : Knowledge PlaceNote) (x : Seated) : Type 0 where
   pub state : PlaceState
-  pub looks : Looks l p state v w u x
-  pub before : DeskState
-  pub after : DeskState
-  pub desks : AreDesks l p looks.found before after
-  pub by : IsWornBy clock before after w
+  pub looks : Looks (layout_of n) p state v w u x
+  pub before : Site Ruled Packet
+  pub after : Site Ruled Packet
+  pub served : IsServedAt (turns.handed n.turns) p looks.found before after
+  pub by : IsWornBy clock (desk_of before) (desk_of after) w
 
--- why a call was refused: another pass held the place; or it looked at the place, and found no memory, or a worn clock
-abbrev pub Because : (Layout → ℕ → ℕ → Knowledge PlaceNote → Seated → Knowledge PlaceNote → Seated → Type 0)
-    → CallFault → Layout → ℕ → Knowledge PlaceNote → Seated → Knowledge PlaceNote → Seated → Type 0
-Because finds_worn (call_faults.Busy by) l p v w u x = FoundBusy p by v u × (x ≡ w)
-Because finds_worn (call_faults.Memory none) l p v w u x = (s : PlaceState) × Looks l p s v w u x
-Because finds_worn (call_faults.Worn clock) l p v w u x = finds_worn l p clock v w u x
+-- why a serve was refused: another pass held the place; or it looked at the place, and found no memory, or a worn clock
+abbrev pub Unserved : CallFault → Nucleus → ℕ → Knowledge PlaceNote → Seated → Knowledge PlaceNote → Seated → Type 0
+Unserved (call_faults.Busy by) n p v w u x = FoundBusy p by v u × (x ≡ w)
+Unserved (call_faults.Memory none) n p v w u x = (s : PlaceState) × Looks (layout_of n) p s v w u x
+Unserved (call_faults.Worn clock) n p v w u x = FindsWornBy n p clock v w u x
 
--- the caller is as it was, and the pass made nothing
+-- the caller is as it was, but for what it was shown, and the pass made nothing
 pub record IsRefused (v : Knowledge PlaceNote) (w : Seated) (u : Knowledge PlaceNote) (x : Seated) : Type 0 where
-  pub caller : x ≡ w
+  pub caller : HasSeenMore w x
   pub mine : u.mine ≡ v.mine
 
 -- where the caller carries the command out
@@ -139,8 +149,8 @@ pub record IsCall (n : Nucleus) (c : Command) (old new : Pass) (r : Result Reply
   pub standing : IsSamePass (known old) (known new)
   pub turn : IfOk r (λ x. Performs (layout_of n) (place_of n c old) c x (known old) (caller_of old) (known new)
       (caller_of new))
-  pub fault : IfErr r (λ f. Because FindsWorn f (layout_of n) (place_of n c old) (known old) (caller_of old)
-      (known new) (caller_of new))
+  pub fault : IfErr r (λ f. Because f (layout_of n) (place_of n c old) (known old) (caller_of old) (known new)
+      (caller_of new))
   pub refused : OnErr r (IsRefused (known old) (caller_of old) (known new) (caller_of new))
   pub worn : worn_by new ≡ worn_after (worn_by old) r
   pub gave_is : gave (known new) ≡ gave_after c r (gave (known old))
@@ -148,34 +158,35 @@ pub record IsCall (n : Nucleus) (c : Command) (old new : Pass) (r : Result Reply
   pub sight : sight_of new ≡ sight_of old
 
 -- the packet from there was worked off: it was lawful, and no clock was worn
-abbrev pub WorksOffAt : Layout → ℕ → ℕ → Knowledge PlaceNote → Seated → Knowledge PlaceNote → Seated → Type 0
-WorksOffAt l p from v w u x =
-    (s : PlaceState) × (k : Packet) × (t : TakesTurn l p (Input.Packet from k) s v w u x) × MayWork from k s w
-    × (d e : DeskState) × AreDesks l p t.found d e
+abbrev pub WorksOffAt : Nucleus → ℕ → ℕ → Knowledge PlaceNote → Seated → Knowledge PlaceNote → Seated → Type 0
+WorksOffAt n p from v w u x =
+    (s : PlaceState) × (k : Packet) × (t : TakesTurn (layout_of n) p (Input.Packet from k) s v w u x)
+    × MayWork from k s w × (b a : Site Ruled Packet) × IsServedAt (turns.handed n.turns) p t.found b a
 
 -- a packet from there is unlawful, and stays in hand
-abbrev pub KeepsInHandAt : Layout → ℕ → ℕ → Knowledge PlaceNote → Seated → Knowledge PlaceNote → Seated → Type 0
-KeepsInHandAt l p from v w u x =
-    (s : PlaceState) × (t : Looks l p s v w u x) × (k : Packet)
-    × (d e : DeskState) × AreDesks l p t.found d e × KeepsInHand from k d e w x
+abbrev pub KeepsInHandAt : Nucleus → ℕ → ℕ → Knowledge PlaceNote → Seated → Knowledge PlaceNote → Seated → Type 0
+KeepsInHandAt n p from v w u x =
+    (s : PlaceState) × (t : Looks (layout_of n) p s v w u x) × (k : Packet)
+    × (b a : Site Ruled Packet) × IsServedAt (turns.handed n.turns) p t.found b a
+    × KeepsInHand from k (desk_of b) (desk_of a) w w
 
--- What a pump of the place did: it worked off a packet, or keeps one in hand that may not be worked off; or it was
+-- What a serve of the place did: it worked off a packet, or keeps one in hand that may not be worked off; or it was
 -- idle, with nothing in hand and each link found empty, and tells how many packets the turns of the journal that it
 -- found put, and, up to 2^64 - 1, how many they worked off.
-abbrev pub Serves : Layout → ℕ → Pump → Knowledge PlaceNote → Seated → Knowledge PlaceNote → Seated → Type 0
-Serves l p (pumps.Served from) v w u x = WorksOffAt l p from v w u x ⊎ KeepsInHandAt l p from v w u x
-Serves l p (pumps.Idle put worked) v w u x =
-    (s : PlaceState) × (t : Looks l p s v w u x) × (put ≡ put_count (turns_at p t.found))
+abbrev pub Serves : Nucleus → ℕ → Pump → Knowledge PlaceNote → Seated → Knowledge PlaceNote → Seated → Type 0
+Serves n p (pumps.Served from) v w u x = WorksOffAt n p from v w u x ⊎ KeepsInHandAt n p from v w u x
+Serves n p (pumps.Idle put worked) v w u x =
+    (s : PlaceState) × (t : Looks (layout_of n) p s v w u x) × (put ≡ put_count (turns_at p t.found))
     × (worked ≡ min (got_count (turns_at p t.found)) (2 ^ 64 - 1))
-    × (d e : DeskState) × AreDesks l p t.found d e × IsIdle d e w x
+    × (b a : Site Ruled Packet) × IsServedAt (turns.handed n.turns) p t.found b a
+    × IsIdle (desk_of b) (desk_of a) w w
 
--- what a pump of the place p did
-pub record IsPump (n : Nucleus) (p : ℕ) (old new : Pass) (r : Result Pump CallFault) : Type 0 where
+-- what a serve of the place p did
+pub record IsServe (n : Nucleus) (p : ℕ) (old new : Pass) (r : Result Pump CallFault) : Type 0 where
   pub pass : IsPassOf n new
   pub standing : IsSamePass (known old) (known new)
-  pub served : IfOk r (λ x. Serves (layout_of n) p x (known old) (caller_of old) (known new) (caller_of new))
-  pub fault : IfErr r (λ f. Because FindsWornBy f (layout_of n) p (known old) (caller_of old) (known new)
-      (caller_of new))
+  pub served : IfOk r (λ x. Serves n p x (known old) (caller_of old) (known new) (caller_of new))
+  pub fault : IfErr r (λ f. Unserved f n p (known old) (caller_of old) (known new) (caller_of new))
   pub refused : OnErr r (IsRefused (known old) (caller_of old) (known new) (caller_of new))
   pub worn : worn_by new ≡ worn_after (worn_by old) r
   pub gave_is : gave (known new) ≡ gave (known old)
@@ -194,8 +205,9 @@ pub record IsOutcome (n : Nucleus) (x : MsgId) (old new : Pass) (r : Result Outc
       (caller_of old) (known new) (caller_of new)
       × (o ≡ outcome_for (caller_of old).seat x s.journal))
   pub fault : IfErr r (λ f. (by : ℕ) × (f ≡ call_faults.Busy by)
-      × FoundBusy (home_of (layout_of n) (caller_of old)) by (known old) (known new))
-  pub caller : caller_of new ≡ caller_of old
+      × FoundBusy (home_of (layout_of n) (caller_of old)) by (known old) (known new)
+      × (caller_of new ≡ caller_of old))
+  pub caller : HasSeenMore (caller_of old) (caller_of new)
   pub mine : (known new).mine ≡ (known old).mine
   pub worn : worn_by new ≡ worn_by old
   pub sight : sight_of new ≡ sight_of old

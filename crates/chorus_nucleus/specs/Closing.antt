@@ -22,6 +22,7 @@ use Rattle.law_history.specs.Network.{Network}
 use Rattle.law_history.specs.Runs.{actor_among}
 use Rattle.law_history.specs.Journals.{PlaceTurn, Comer, AreHistories, IsTheirSchedule, events}
 use Rattle.law_closing.specs.Places.{PlaceNote}
+use Rattle.law_closing.specs.Behind.{AllStandBehind, AreAtPlaces}
 use Rattle.law_closing.specs.Actors.{AreActors}
 use Rattle.law_closing.specs.Remarks.{turns_at, turns_in}
 use Rattle.law_closing.specs.Closing.{IsPlace, Tells}
@@ -35,7 +36,8 @@ use Rattle.chorus_nucleus.specs.Passes.{layout_of, known, worn_by}
 
 -- These came, as many as numbers were drawn. The journals with remarks tell all that the pass and those in its notes
 -- made, and the turns of the places and of the seats are theirs; they are histories that fit each other. The journals
--- are those that are handed out. What was closed is the network of each schedule of these turns.
+-- are those that are handed out. Each entry that the pass, or one in its notes, made stands behind all that had been
+-- seen before its turn. What was closed is the network of each schedule of these turns.
 pub record ClosesAs (l : Layout) (v : Knowledge PlaceNote) (comers : List Comer) (closed : Closed) : Type 0 where
   pub log : ℕ → List (Remarked PlaceNote)
   pub of_places : ℕ → List PlaceTurn
@@ -49,6 +51,9 @@ pub record ClosesAs (l : Layout) (v : Knowledge PlaceNote) (comers : List Comer)
   pub made : (p : ℕ) → IsPlace (places l) p → of_places p ≡ turns_at p (log p)
   pub mine : of_seats v.seat ≡ turns_in v.mine
   pub noted : All (λ (n : Note PlaceNote). of_seats n.seat ≡ turns_in n.mine) v.notes
+  pub within : AreAtPlaces (places l) v.mine
+  pub noted_within : All (λ (n : Note PlaceNote). AreAtPlaces (places l) n.mine) v.notes
+  pub behind : AllStandBehind v
   pub is_left : (turns : List PlaceTurn) → IsTheirSchedule l comers of_places of_seats closing turns
       → IsLeft (schedule l (events comers turns)) closed
 

@@ -14,6 +14,7 @@ use Rattle.chorus_turn.specs.declared.knowledge.Knowledge.{Knowledge}
 use Rattle.chorus_turn.specs.Passes as turns
 use Rattle.chorus_turn.specs.Journals.{entries_of}
 use Rattle.law_closing.specs.Closing.{IsPlace}
+use Rattle.law_closing.specs.Behind.{AllStandBehind}
 use Rattle.law_closing.specs.Places.{PlaceNote, ArePlacesClosed}
 use Rattle.chorus_nucleus.specs.declared.site_turns.site.Site.{Site}
 use Rattle.chorus_nucleus.specs.SiteTurns.Sites.{sent_in, waits_in, received_in, held_in}
@@ -71,6 +72,7 @@ AreClosedWith l log v ds left =
 -- places; and however the links are settled, the places were closed
 pub record IsShut (n : Nucleus) (pass : Pass) (s : Shut) : Type 0 where
   pub worn : s.worn ≡ worn_by pass
+  pub behind : AllStandBehind (known pass)
   pub left : turns.IsLeftOf n.turns pass.turner s.spent
   pub shape : IsLayout (layout_of n)
   pub count : length s.sites.items ≡ places (layout_of n)

@@ -4,6 +4,7 @@ pub mod Readers
 pub mod Starting
 pub mod Coming
 pub mod Reading
+pub mod Pumping
 pub mod Leaving
 pub mod Closing
 pub mod Runs

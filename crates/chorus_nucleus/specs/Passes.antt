@@ -1,6 +1,6 @@
 -- What a nucleus and its passes keep.
 -- n is a nucleus, l its layout, a, b and p are numbers of places, v is what a pass knows, w its caller.
-use Rattle.std.specs.Prelude.{ℕ, ◌≡◌, ◌≢◌, ◌≤◌, ◌-◌, true, false, List, [], length, Option, Some, None, is_some, slice_get, slice_index_or, IfSome}
+use Rattle.std.specs.Prelude.{ℕ, ◌≡◌, ◌≢◌, ◌<◌, ◌≤◌, ◌+◌, ◌-◌, true, false, List, [], length, Option, Some, None, is_some, slice_get, slice_index_or, IfSome}
 use Rattle.std.specs.Global.{Vec}
 use Rattle.std.specs.Vec.{vec_capacity}
 use Rattle.chorus_board.specs.declared.start.TheConstants.{READERS_PER_BOARD}
@@ -17,16 +17,23 @@ use Rattle.chorus_board.specs.declared.reader.BoardReader.{BoardReader}
 use Rattle.chorus_board.specs.Boards as boards
 use Rattle.chorus_calls.specs.Callers.{Seated}
 use Rattle.chorus_place.specs.GivenPosts.{GaveWithinPosts}
-use Rattle.chorus_serve.specs.Desks.{seen}
+use Rattle.chorus_serve.specs.Desks.{DeskState, seen}
+use Rattle.chorus_turn.specs.declared.knowledge.Remarked.{Remarked}
+use Rattle.chorus_turn.specs.declared.knowledge.Placed.{Placed}
 use Rattle.chorus_turn.specs.declared.knowledge.Note.{Note}
 use Rattle.chorus_turn.specs.declared.knowledge.Knowledge.{Knowledge}
+use Rattle.chorus_turn.specs.Lists.{StartsWith, list_at}
+use Rattle.chorus_turn.specs.Knowing.{seen_at}
 use Rattle.chorus_turn.specs.Passes as turns
 use Rattle.chorus_turn.specs.Calls.{IsMarkAt}
+use Rattle.law_history.specs.PlaceTurns.{machine}
 use Rattle.law_closing.specs.Closing.{IsPlace, IsThread}
 use Rattle.law_closing.specs.Places.{PlaceNote, is_new}
 use Rattle.chorus_nucleus.specs.declared.site_turns.site.Site.{Site}
 use Rattle.chorus_nucleus.specs.declared.site_turns.site.SiteMark.{SiteMark}
 use Rattle.chorus_nucleus.specs.SiteTurns.Sites.{mark}
+use Rattle.law_closing.specs.Behind.{HasSeenBelow, AllStandBehind}
+use Rattle.chorus_nucleus.specs.SiteTurns.Turning.{HasSeenMore}
 use Rattle.chorus_nucleus.specs.declared.nucleus.Nucleus.{Nucleus}
 use Rattle.chorus_nucleus.specs.declared.pass.Pass.{Pass}
 use Rattle.chorus_nucleus.specs.declared.sight.Sight.{Sight}
@@ -59,15 +66,26 @@ readers_in (Some row) = row.items
 abbrev pub row_at : ℕ → List (Vec BoardReader) → List BoardReader
 row_at p rows = readers_in (slice_get rows (p - 1))
 
+abbrev pub spare_at : ℕ → Pass → List BoardReader
+spare_at p pass = row_at p pass.sight.spare.items
+
 abbrev pub readers_at : ℕ → Pass → ℕ
-readers_at p pass = length (row_at p pass.sight.spare.items)
+readers_at p pass = length (spare_at p pass)
 
 -- the home place of an actor of the layout
 abbrev pub home_of : Layout → Seated → ℕ
 home_of l w = creation_place l w.actor
 
+-- a place that was handed in: its desk, and what no turn changes of it
+abbrev pub desk_of : Site Ruled Packet → DeskState
+desk_of s = seen links (λ f. f) s.desk
+
 abbrev pub mark_of : Site Ruled Packet → SiteMark
-mark_of s = mark (seen links (λ f. f) s.desk) (boards.name_of s.board)
+mark_of s = mark (desk_of s) (boards.name_of s.board)
+
+-- the place of this number of the nucleus, as it may be at some moment
+abbrev pub IsPlaceOf : List (Site Ruled Packet) → ℕ → Site Ruled Packet → Type 0
+IsPlaceOf handed p s = IsMarkAt mark_of handed p (mark_of s)
 
 -- the names of the two ends of the link from a to b
 abbrev pub out_name : ℕ → EndsName → Option LinkName
@@ -109,15 +127,18 @@ pub record IsSight (l : Layout) (handed : List (Site Ruled Packet)) (v : Knowled
   pub none : v.keeper ≡ false → s.spare.items ≡ []
 
 -- the thread of a pass: its turns, and those of each pass in its notes, go from a new caller of its seat, in an actor
--- of the layout, to the caller that it has
+-- of the layout, to the caller that it has, to which entries may have been shown since; what the pass has seen has
+-- clocks up to its last one, and what it made stands behind all that it had seen
 pub record IsCallerOf (l : Layout) (v : Knowledge PlaceNote) (w : Seated) : Type 0 where
   pub seat : w.seat ≡ v.seat
   pub kind : is_actor w.actor ≡ true
   pub actor : has_actor l w.actor ≡ true
   pub given : GaveWithinPosts w
-  pub thread : IsThread (is_new l) (places l) v.seat v.mine
-  pub last : thread.last ≡ w
-  pub threads : All (λ (n : Note PlaceNote). IsThread (is_new l) (places l) n.seat n.mine) v.notes
+  pub thread : IsThread (machine l) (is_new l) (places l) v.seat v.mine
+  pub last : HasSeenMore thread.last w
+  pub threads : All (λ (n : Note PlaceNote). IsThread (machine l) (is_new l) (places l) n.seat n.mine) v.notes
+  pub seen : HasSeenBelow (w.last + 1) v
+  pub behind : AllStandBehind v
 
 -- the pass is one of this nucleus
 pub record IsPassOf (n : Nucleus) (pass : Pass) : Type 0 where

@@ -29,8 +29,9 @@ use Rattle.law_closing.specs.Places.{PlaceNote}
 use Rattle.chorus_nucleus.specs.declared.fault.CallFault.{CallFault}
 use Rattle.chorus_nucleus.specs.declared.nucleus.Nucleus.{Nucleus}
 use Rattle.chorus_nucleus.specs.declared.pass.Pass.{Pass}
+use Rattle.chorus_nucleus.specs.SiteTurns.Turning.{HasSeenMore}
 use Rattle.chorus_nucleus.specs.Passes.{layout_of, known, caller_of, worn_by, sight_of, IsPassOf}
-use Rattle.chorus_nucleus.specs.Calls.{FindsWorn, Because, place_of, worn_after}
+use Rattle.chorus_nucleus.specs.Calls.{Because, place_of, worn_after}
 use Rattle.chorus_nucleus.specs.declared.taken_message.TakenMessage.{TakenMessage}
 
 -- the acts of what a pass made, in order
@@ -111,10 +112,10 @@ pub record TakesOn (n : Nucleus) (q : Ui) (old new : Pass) : Type 0 where
 pub record IsFault (n : Nucleus) (q : Ui) (f : CallFault) (old new : Pass) : Type 0 where
   pub tried : Knowledge PlaceNote
   pub before : tried.mine ≡ (known old).mine
-  pub because : Because FindsWorn f (layout_of n) (place_of n (Command.Take q) old) tried (caller_of old) (known new)
+  pub because : Because f (layout_of n) (place_of n (Command.Take q) old) tried (caller_of old) (known new)
       (caller_of new)
   pub mine : (known new).mine ≡ (known old).mine
-  pub caller : caller_of new ≡ caller_of old
+  pub caller : HasSeenMore (caller_of old) (caller_of new)
 
 -- what a take of the port did
 pub record IsTake (n : Nucleus) (q : Ui) (r : Result (Option TakenMessage) CallFault) (old new : Pass) : Type 0 where

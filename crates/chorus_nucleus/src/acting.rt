@@ -61,7 +61,8 @@ impl Nucleus {
     ///
     /// It tries the place once. `Busy` comes exactly where that try found another pass there, and takes no memory. `Worn` tells the
     /// greater of the place's and the caller's last clocks, which is then at least 2^62; a call that is answered found it lower.
-    /// `Memory` comes for want of memory for the command's copy or its turn. An error leaves the place and the caller as they were.
+    /// `Memory` comes for want of memory for the command's copy or its turn. An error leaves the place as it was, and of the caller
+    /// all but its last clock, which is then at least that of the place where it was looked at.
     pub fn act(&self, pass: &mut Pass, command: &Command) -> Result<Reply, CallFault>
         requires pass { IsPassOf self.now pass.old }
         requires conditions { meets_conditions command.now ≡ true }
@@ -83,7 +84,10 @@ impl Nucleus {
         let actor = pass.caller.actor();
         let home = self.layout.place_at(actor.site(), actor);
         match self.turns.with(&mut pass.turner, home, &mut Asks { id }) {
-            Ok(outcome) => Ok(told(pass.caller.seat(), id, outcome)),
+            Ok((outcome, clock)) => {
+                pass.caller.see(clock);
+                Ok(told(pass.caller.seat(), id, outcome))
+            }
             Err(busy) => Err(CallFault::Busy { by: busy.by }),
         }
     }

@@ -2,9 +2,11 @@
 ghost use Rattle.std.specs.Prelude.{◌≡◌};
 ghost use Rattle.chorus_nucleus.specs.Calls.{answered};
 ghost use Rattle.chorus_nucleus.specs.Reading.{answered_publish};
+ghost use Rattle.chorus_nucleus.specs.Pumping.{pumped};
 
 use crate::fault::CallFault;
 use chorus_place::PlaceFault;
+use chorus_serve::Pump;
 use chorus_turn::Busy;
 use std::alloc::AllocError;
 
@@ -28,5 +30,19 @@ pub(crate) fn answer_publish(done: Result<Result<(), AllocError>, Busy>) -> Resu
         Ok(Ok(())) => Ok(()),
         Ok(Err(none)) => Err(CallFault::Memory(none)),
         Err(busy) => Err(CallFault::Busy { by: busy.by }),
+    }
+}
+
+/// The answer of a pump of the nucleus, from that of its turn and from how its publish ended.
+pub(crate) fn answer_pump(
+    done: Result<Result<Pump, PlaceFault>, Busy>,
+    published: Result<(), AllocError>,
+) -> Result<Pump, CallFault>
+    ensures { result ≡ pumped (answered done) published }
+{
+    match (answer(done), published) {
+        (Ok(served), Ok(())) => Ok(served),
+        (Ok(_), Err(none)) => Err(CallFault::Memory(none)),
+        (Err(fault), _) => Err(fault),
     }
 }

@@ -1,12 +1,9 @@
 //! How passes come and go.
-ghost use Rattle.std.specs.Prelude.{◌≡◌, ◌≤◌, ◌↔◌, ℕ, true, false, cond, IfOk, OnErr, IsErrOf};
-ghost use Rattle.chorus_ui.specs.Layout.{has_actor};
+ghost use Rattle.std.specs.Prelude.{◌≡◌, ◌≤◌, true, cond, IfOk, OnErr};
 ghost use Rattle.chorus_ui.specs.NameKind.{is_actor};
-ghost use Rattle.chorus_turn.specs.Knowing.{limit};
-ghost use Rattle.chorus_net.specs.declared.fault.EnterFault.TheVariants as EnterFault;
-ghost use Rattle.chorus_nucleus.specs.Passes.{known, layout_of, sight_of, AreRoomy, IsPassOf};
+ghost use Rattle.chorus_nucleus.specs.Passes.{known, sight_of, AreRoomy, IsPassOf};
 ghost use Rattle.chorus_nucleus.specs.Readers.{Inherits};
-ghost use Rattle.chorus_nucleus.specs.Coming.{Enters, IsKeptKeeper, Retires};
+ghost use Rattle.chorus_nucleus.specs.Coming.{Enters, FailsToEnter, IsKeptKeeper, Retires};
 
 use crate::nucleus::Nucleus;
 use crate::pass::Pass;
@@ -49,11 +46,7 @@ impl Nucleus {
         requires kind { is_actor actor ≡ true }
         ensures keeper { IsKeptKeeper self.now pass.old pass.new }
         ensures ok { IfOk result (λ p. Enters self.now actor pass.old pass.new p) }
-        ensures no_actor { IsErrOf result EnterFault.NoActor
-            ↔ (has_actor (layout_of self.now) actor ≡ false) }
-        ensures no_seat { (made : ℕ) → IsErrOf result (EnterFault.NoSeat made)
-            ↔ ((has_actor (layout_of self.now) actor ≡ true)
-            × ((known pass.old).made ≡ limit) × (made ≡ limit)) }
+        ensures why { FailsToEnter self.now actor pass.old result }
         ensures refused { OnErr result ((known pass.new ≡ known pass.old)
             × (sight_of pass.new ≡ sight_of pass.old)) }
     {
@@ -94,6 +87,7 @@ impl Nucleus {
         let actor = caller.actor();
         let home = self.layout.place_at(actor.site(), actor);
         self.turns.retire(turner, &mut into.turner);
+        into.caller.see(caller.last());
         into.worn = into.worn.or(worn);
         let is_keeper = into.turner.keeper();
         inherit(&mut into.sight, sight, was_keeper, is_keeper, home);

@@ -3,7 +3,7 @@
 use std::alloc::AllocError;
 use thiserror::Error;
 
-/// Why a call was refused. No entry was appended, and the caller is as it was; after `Memory` and `Worn` the pass may have seen more of
+/// Why a call was refused. No entry was appended, and the caller is as it was but for its last clock; after `Memory` and `Worn` the pass may have seen more of
 /// the place's journal. A pump may have moved packets before it was refused, and a publish may have published a beginning.
 #[derive(Clone, Copy, Debug, PartialEq, Eq, Error)]
 pub enum CallFault {

@@ -20,7 +20,8 @@ impl Nucleus {
     /// Where the port is, as the board of the pass's home place tells: its location after some entries of that place, which begin with
     /// those of the pass's last answer and with those that its last publish there found. The port's site is in the layout.
     ///
-    /// It takes no turn, no memory and no wait. `ReadersFull` comes exactly where the pass has no reader.
+    /// The caller has then seen the last of these entries: its own clock is at least that. It takes no turn, no memory and no wait.
+    /// `ReadersFull` comes exactly where the pass has no reader.
     pub fn locate(&self, pass: &mut Pass, port: Ui) -> Result<Located, ReadersFull>
         requires pass { IsPassOf self.now pass.old }
         requires kind { port.kind ≡ Port }
@@ -30,6 +31,7 @@ impl Nucleus {
         match pass.sight.reader.take() {
             Some(mut own) => {
                 let found = own.newest(port);
+                pass.caller.see(own.clock());
                 pass.sight.reader = Some(own);
                 Ok(found)
             }

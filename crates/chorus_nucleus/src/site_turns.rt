@@ -11,6 +11,7 @@ mod command_turn;
 mod draft;
 mod outcome_turn;
 mod publish_turn;
+mod pump_turn;
 mod serve_turn;
 mod site;
 
@@ -18,5 +19,6 @@ pub(crate) use command_turn::Acts;
 pub(crate) use draft::Draft;
 pub(crate) use outcome_turn::Asks;
 pub(crate) use publish_turn::Publishes;
+pub(crate) use pump_turn::Pumps;
 pub(crate) use serve_turn::Serves;
 pub(crate) use site::{Remark, Site};

@@ -63,7 +63,8 @@ pub fn take_when_free<R: Wait>(
         match take_once(nucleus, pass, port) {
             Ok(answer) => return Ok(answer),
             Err(CallFault::Busy { by: _ }) => thread::yield_now(),
-            Err(fault) => return Err(fault),
+            Err(CallFault::Memory(none)) => return Err(CallFault::Memory(none)),
+            Err(CallFault::Worn { clock }) => return Err(CallFault::Worn { clock }),
         }
     }
     unreachable!()

@@ -21,6 +21,7 @@ use Rattle.law_closing.specs.Remarks.{numbered}
 use Rattle.law_closing.specs.Places.{PlaceNote}
 use Rattle.chorus_turn.specs.declared.knowledge.Placed.{Placed}
 use Rattle.chorus_turn.specs.declared.knowledge.Knowledge.{Knowledge}
+use Rattle.chorus_turn.specs.declared.knowledge.Remarked.{Remarked}
 use Rattle.chorus_turn.specs.Journals.{with_place}
 use Rattle.chorus_turn.specs.Lists.{StartsWith}
 use Rattle.chorus_nucleus.specs.declared.nucleus.Nucleus.{Nucleus}
@@ -161,17 +162,17 @@ module _ (mine : List (Placed PlaceNote)) (last : ℕ) (taken : List PortMessage
 
 -- A take.
 
-stands-new : (p k : ℕ) (r : PlaceNote) (e : Entry) (es : List Entry) (xs ys : List (Placed PlaceNote)) → ys ≡ xs ++ with_place p (numbered k r (e ∷ es)) → StandsIn e (entries_made ys)
-stands-new p k r e es xs ys is = record {
+stands-new : (p k : ℕ) (seen : List (List (Remarked PlaceNote))) (r : PlaceNote) (e : Entry) (es : List Entry) (xs ys : List (Placed PlaceNote)) → ys ≡ xs ++ with_place p seen (numbered k r (e ∷ es)) → StandsIn e (entries_made ys)
+stands-new p k seen r e es xs ys is = record {
   newer = entries_made xs;
-  older = entries_made (with_place p (numbered (k + 1) r es));
-  is = ap entries_made is ∙ entries-append xs (with_place p (numbered k r (e ∷ es)));
+  older = entries_made (with_place p seen (numbered (k + 1) r es));
+  is = ap entries_made is ∙ entries-append xs (with_place p seen (numbered k r (e ∷ es)));
 }
 
 -- the first of a turn's entries hands a message out, and those behind it nothing
-one-of-turn : (p k : ℕ) (r : PlaceNote) (e : Entry) (es : List Entry) → All IsQuiet es → (f : Entry) (q : Ui) (n : ℕ) (x : MsgId) → In f (entries_made (with_place p (numbered k r (e ∷ es)))) → f.act ≡ Act.Take q n x → f ≡ e
-one-of-turn p k r e es quiet f q n x (inl is) act = sym is
-one-of-turn p k r e es quiet f q n x (inr a) act = absurd (none-out q (with_place p (numbered (k + 1) r es)) (quiet-placed p (k + 1) r es quiet) f n x a act)
+one-of-turn : (p k : ℕ) (seen : List (List (Remarked PlaceNote))) (r : PlaceNote) (e : Entry) (es : List Entry) → All IsQuiet es → (f : Entry) (q : Ui) (n : ℕ) (x : MsgId) → In f (entries_made (with_place p seen (numbered k r (e ∷ es)))) → f.act ≡ Act.Take q n x → f ≡ e
+one-of-turn p k seen r e es quiet f q n x (inl is) act = sym is
+one-of-turn p k seen r e es quiet f q n x (inr a) act = absurd (none-out q (with_place p seen (numbered (k + 1) r es)) (quiet-placed p (k + 1) seen r es quiet) f n x a act)
 
 pub holds-taken : (n : Nucleus) (q : Ui) (a b : Pass) (pos : ℕ) (m : Message) (settled : Option Settle) (taken : List PortMessage) → IsCall n (Command.Take q) a b (Ok (Reply.Taken pos m settled)) → Holds (known a).mine (caller_of a).last taken
     → Holds (known b).mine (caller_of b).last (taken ++ record { port = q; position = pos; message = m } ∷ [])
@@ -188,9 +189,9 @@ holds-taken n q a b pos m settled taken h holds =
     let grown = ap (λ (z : Knowledge PlaceNote). z.mine) t.knows in
     let above = t.above in
     let upto = t.upto in
-    holds-more (known a).mine (caller_of a).last taken (record { port = q; position = pos; message = m }) t.entry holds (known b).mine _ (caller_of b).last (omega (arith, above, upto)) grown (one-of-turn (place_of n (Command.Take q) a) 0 _ t.entry t.later quiet) above
+    holds-more (known a).mine (caller_of a).last taken (record { port = q; position = pos; message = m }) t.entry holds (known b).mine _ (caller_of b).last (omega (arith, above, upto)) grown (one-of-turn (place_of n (Command.Take q) a) 0 _ _ t.entry t.later quiet) above
     record {
-      stands = stands-new (place_of n (Command.Take q) a) 0 _ t.entry t.later (known a).mine (known b).mine grown;
+      stands = stands-new (place_of n (Command.Take q) a) 0 _ _ t.entry t.later (known a).mine (known b).mine grown;
       act = act;
       upto = upto;
     }

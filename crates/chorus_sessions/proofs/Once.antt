@@ -5,7 +5,8 @@ use Rattle.chorus_ui.specs.declared.ui.Ui.{Ui}
 use Rattle.chorus_entry.specs.declared.entry.Entry.{Entry}
 use Rattle.chorus_entry.specs.declared.id.MsgId.{MsgId}
 use Rattle.chorus_world.specs.Views.{on}
-use Rattle.chorus_world.specs.AcceptedLaws.{accepted_by, received, taken_by, ReceivesInOrder, KeepsEachMessage}
+use Rattle.chorus_world.specs.AcceptedLaws.{accepted_by, received, taken_by, ReceivesInOrder}
+use Rattle.law_network.specs.Fates.{WorldHolds}
 
 abbrev pub Once : List MsgId → Type 0
 Once xs = (i j : ℕ) (x : MsgId) → slice_get xs i ≡ Some x → slice_get xs j ≡ Some x → i ≡ j
@@ -24,9 +25,9 @@ take-get (suc k) (y ∷ xs) (suc i) x h = take-get k xs i x h
 taken-once : (k : ℕ) (xs : List MsgId) → Once xs → Once (take k xs)
 taken-once k xs once i j x here there = once i j x (take-get k xs i x here) (take-get k xs j x there)
 
-pub accepted-once : (q : Ui) (past : List Entry) → KeepsEachMessage past → Once (accepted_by q past)
-accepted-once q past fates i j x here there = sym ((fates q i x here).1.alone q j there).1
+pub accepted-once : (q : Ui) (past : List Entry) → WorldHolds past → Once (accepted_by q past)
+accepted-once q past holds i j x here there = (holds.alone q q i j x here there).1
 
-pub received-once : (q : Ui) (past : List Entry) → ReceivesInOrder past → KeepsEachMessage past → Once (received (on q past))
-received-once q past order fates =
-    subst Once (sym (order q)) (taken-once (taken_by q past) (accepted_by q past) (accepted-once q past fates))
+pub received-once : (q : Ui) (past : List Entry) → ReceivesInOrder past → WorldHolds past → Once (received (on q past))
+received-once q past order holds =
+    subst Once (sym (order q)) (taken-once (taken_by q past) (accepted_by q past) (accepted-once q past holds))

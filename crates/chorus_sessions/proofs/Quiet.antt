@@ -35,6 +35,7 @@ use Rattle.law_replies.proofs.Turns.{all-entries}
 use Rattle.law_closing.specs.Remarks.{numbered}
 use Rattle.law_closing.specs.Places.{PlaceNote}
 use Rattle.chorus_turn.specs.declared.knowledge.Placed.{Placed}
+use Rattle.chorus_turn.specs.declared.knowledge.Remarked.{Remarked}
 use Rattle.chorus_turn.specs.Journals.{with_place}
 use Rattle.chorus_sessions.specs.Hands.{hands_out, HandNothingOut}
 use Rattle.chorus_sessions.specs.Sessions.{takes}
@@ -163,8 +164,8 @@ quiet-packet k s w es h =
     subst (All IsQuiet) (reverse-reverse es) (all-reverse IsQuiet (reverse es) (subst (All IsQuiet) (sym same) (follow-quiet g.newer g.follow)))
 
 -- as made at a place
-pub quiet-placed : (p k : ℕ) (r : PlaceNote) (es : List Entry) → All IsQuiet es → HandNothingOut (with_place p (numbered k r es))
-quiet-placed p k r [] h = All-nil MadeQuiet
-quiet-placed p k r (e ∷ es) h =
-    All-cons MadeQuiet record { place = p; remarked = record { entry = e; remark = record r { nth = k } } } (with_place p (numbered (k + 1) r es))
-    (All-head IsQuiet e es h) (quiet-placed p (k + 1) r es (All-tail IsQuiet e es h))
+pub quiet-placed : (p k : ℕ) (seen : List (List (Remarked PlaceNote))) (r : PlaceNote) (es : List Entry) → All IsQuiet es → HandNothingOut (with_place p seen (numbered k r es))
+quiet-placed p k seen r [] h = All-nil MadeQuiet
+quiet-placed p k seen r (e ∷ es) h =
+    All-cons MadeQuiet record { place = p; seen = seen; remarked = record { entry = e; remark = record r { nth = k } } } (with_place p seen (numbered (k + 1) r es))
+    (All-head IsQuiet e es h) (quiet-placed p (k + 1) seen r es (All-tail IsQuiet e es h))

@@ -23,6 +23,7 @@ use Rattle.law_history.specs.Journals.{events}
 use Rattle.law_history.specs.Runs.{KeepsPromises, actor_among}
 use Rattle.law_history.proofs.Merging.{journals-keep-promises}
 use Rattle.law_closing.specs.Places.{PlaceNote, is_new}
+use Rattle.law_history.specs.PlaceTurns.{machine}
 use Rattle.law_closing.specs.Closing.{IsPlace, IsThread}
 use Rattle.chorus_turn.specs.declared.knowledge.Remarked.{Remarked}
 use Rattle.chorus_turn.specs.declared.knowledge.Placed.{Placed}
@@ -107,7 +108,7 @@ module _ (n : Nucleus) (pass : Pass) (c : Closed) (h : IsClosed n pass c) (is : 
   -- what a pass of a note made stands in the run, by its seat
   made-stands : (note : Note PlaceNote) (m : Placed PlaceNote) → In note v.notes → In m note.mine → In m.remarked.entry (past_of c) × (m.remarked.entry.seat ≡ note.seat)
   made-stands note m noted made =
-      let thread = all-in (λ (k : Note PlaceNote). IsThread (is_new l) (places l) k.seat k.mine) note v.notes is.caller.threads noted in
+      let thread = all-in (λ (k : Note PlaceNote). IsThread (machine l) (is_new l) (places l) k.seat k.mine) note v.notes is.caller.threads noted in
       let place = all-in (λ (k : Placed PlaceNote). IsPlace (places l) k.place) m note.mine thread.within made in
       let shows = shown m.place place in
       let own = all-in (λ (k : Note PlaceNote). by_seat k.seat (h.closes.log m.place) ≡ at_place m.place k.mine) note v.notes shows.noted noted in
@@ -136,7 +137,7 @@ module _ (n : Nucleus) (pass : Pass) (c : Closed) (h : IsClosed n pass c) (is : 
   one : (q : Ui) (x : MsgId) (i j : ℕ) (e f : Entry) → In e (past_of c) → In f (past_of c) → e.act ≡ Act.Take q i x → f.act ≡ Act.Take q j x → e ≡ f
   one q x i j e f a b =
       one-entry q x i j e f (past_of c)
-      (λ newer older split. received-once q older (law.receives newer older split) (law.fates newer older split)) a b
+      (λ newer older split. received-once q older (law.receives newer older split) (law.holds newer older split)) a b
 
   position-of : (q : Ui) (i : ℕ) (x : MsgId) (e : Entry) → In e (past_of c) → e.act ≡ Act.Take q i x → slice_get (accepted_by q (past_of c)) i ≡ Some x
   position-of q i x e a act = has-position l (actor_among h.comers) (past_of c) q i x e h.shape law.run a act
@@ -144,7 +145,7 @@ module _ (n : Nucleus) (pass : Pass) (c : Closed) (h : IsClosed n pass c) (is : 
   -- a message was accepted by one port
   same-port : (q r : Ui) (i j : ℕ) (x : MsgId) (e f : Entry) → In e (past_of c) → In f (past_of c) → e.act ≡ Act.Take q i x → f.act ≡ Act.Take r j x → r ≡ q
   same-port q r i j x e f a b here there =
-      ((law.fates [] (past_of c) refl q i x (position-of q i x e a here)).1.alone r j (position-of r j x f b there)).0
+      ((law.holds [] (past_of c) refl).alone r q j i x (position-of r j x f b there) (position-of q i x e a here)).0
 
   -- so it was handed out by one entry
   same-entry : (m k : PortMessage) (e f : Entry) → In e (past_of c) → In f (past_of c) → e.act ≡ Act.Take m.port m.position m.message.id

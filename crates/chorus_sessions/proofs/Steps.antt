@@ -11,7 +11,9 @@ use Rattle.chorus_entry.specs.declared.dest.Dest.{Dest}
 use Rattle.chorus_entry.specs.declared.id.MsgId.{MsgId}
 use Rattle.chorus_entry.specs.declared.message.Message.{Message}
 use Rattle.chorus_calls.specs.declared.client.Settle.{Settle}
-use Rattle.chorus_calls.specs.Callers.{Seated}
+use Rattle.chorus_calls.specs.Callers.{Seated, raised}
+use Rattle.chorus_nucleus.specs.SiteTurns.Turning.{HasSeenMore}
+use Rattle.chorus_nucleus.proofs.Behind.{more-itself, more-up}
 use Rattle.law_machine.specs.declared.reply.Reply.{Reply}
 use Rattle.law_machine.specs.declared.outcome.Outcome.{Outcome}
 use Rattle.law_machine.specs.PlaceState.{Turn}
@@ -30,7 +32,7 @@ use Rattle.chorus_nucleus.specs.declared.fault.CallFault.{CallFault}
 use Rattle.chorus_nucleus.specs.declared.nucleus.Nucleus.{Nucleus}
 use Rattle.chorus_nucleus.specs.declared.pass.Pass.{Pass}
 use Rattle.chorus_nucleus.specs.Passes.{known, caller_of, IsPassOf}
-use Rattle.chorus_nucleus.specs.Calls.{IsCall, IsPump, IsOutcome, place_of}
+use Rattle.chorus_nucleus.specs.Calls.{IsCall, IsServe, IsOutcome, place_of}
 use Rattle.chorus_sessions.specs.declared.session.Session.{Session}
 use Rattle.chorus_sessions.specs.declared.hand.PortMessage.{PortMessage}
 use Rattle.chorus_sessions.specs.Hands.{hands_out, Holds, HandNothingOut}
@@ -44,16 +46,17 @@ MadeQuiet m = hands_out m.remarked.entry.act ≡ false
 goes-more : (n : Nucleus) (a b : Pass) (more : List (Placed PlaceNote)) → IsPassOf n b → IsSamePass (known a) (known b) → (known b).mine ≡ (known a).mine ++ more → HandNothingOut more → (caller_of a).last ≤ (caller_of b).last → Goes n a b
 goes-more n a b more pass same mine quiet last = record { pass = pass; same = same; more = more; mine = mine; quiet = quiet; last = last }
 
-same-last : (w x : Seated) → x ≡ w → w.last ≤ x.last
-same-last w x same = let e = ap (λ (z : Seated). z.last) same in omega (arith, e)
+-- a look raises the caller's clock, if anything
+look-last : (clock : ℕ) (w x : Seated) → x ≡ raised clock w → w.last ≤ x.last
+look-last clock w x shown = let e = ap (λ (z : Seated). z.last) shown in omega (arith, e)
 
 -- nothing was made
-goes-still : (n : Nucleus) (a b : Pass) → IsPassOf n b → IsSamePass (known a) (known b) → (known b).mine ≡ (known a).mine → caller_of b ≡ caller_of a → Goes n a b
+goes-still : (n : Nucleus) (a b : Pass) → IsPassOf n b → IsSamePass (known a) (known b) → (known b).mine ≡ (known a).mine → HasSeenMore (caller_of a) (caller_of b) → Goes n a b
 goes-still n a b pass same mine caller =
-    goes-more n a b [] pass same (mine ∙ sym (append-nil (known a).mine)) (All-nil MadeQuiet) (same-last (caller_of a) (caller_of b) caller)
+    goes-more n a b [] pass same (mine ∙ sym (append-nil (known a).mine)) (All-nil MadeQuiet) (more-up (caller_of a) (caller_of b) caller)
 
 pub goes-not : (n : Nucleus) (a : Pass) → IsPassOf n a → Goes n a a
-goes-not n a is = goes-still n a a is (refl, refl, refl, refl) refl refl
+goes-not n a is = goes-still n a a is (refl, refl, refl, refl) refl (more-itself (caller_of a))
 
 pub goes-then : (n : Nucleus) (a b c : Pass) → Goes n a b → Goes n b c → Goes n a c
 goes-then n a b c g h = record {
@@ -72,7 +75,7 @@ goes-by n command a b x h quiet =
     let t = h.turn.turn in
     let above = t.above in
     let upto = t.upto in
-    goes-more n a b _ h.pass h.standing (ap (λ (z : Knowledge PlaceNote). z.mine) t.knows) (quiet-placed (place_of n command a) 0 _ (t.entry ∷ t.later) quiet) (omega (arith, above, upto))
+    goes-more n a b _ h.pass h.standing (ap (λ (z : Knowledge PlaceNote). z.mine) t.knows) (quiet-placed (place_of n command a) 0 _ _ (t.entry ∷ t.later) quiet) (omega (arith, above, upto))
 
 goes-quiet : (n : Nucleus) (command : Command) (a b : Pass) (r : Result Reply CallFault) → ((t : Turn) → Quiet (own command t)) → IsCall n command a b r → Goes n a b
 goes-quiet n command a b (Ok x) quiet h =
@@ -90,23 +93,23 @@ goes-send n d body a b r h = goes-quiet n (Command.Send d body) a b r (λ t. ref
 pub goes-act : (n : Nucleus) (c : Command) (a b : Pass) (r : Result Reply CallFault) → takes c ≡ false → IsCall n c a b r → Goes n a b
 goes-act n c a b r other h = goes-quiet n c a b r (own-quiet c other) h
 
-pub goes-pump : (n : Nucleus) (place : ℕ) (a b : Pass) (r : Result Pump CallFault) → IsPump n place a b r → Goes n a b
-goes-pump n place a b (Ok (pumps.Served from)) h = elim h.served [
+pub goes-serve : (n : Nucleus) (place : ℕ) (a b : Pass) (r : Result Pump CallFault) → IsServe n place a b r → Goes n a b
+goes-serve n place a b (Ok (pumps.Served from)) h = elim h.served [
   | inl works ↦
       (let t = works.2 in
       let above = t.above in
       let upto = t.upto in
       goes-more n a b _ h.pass h.standing (ap (λ (z : Knowledge PlaceNote). z.mine) t.knows)
-      (quiet-placed place 0 _ (t.entry ∷ t.later) (quiet-packet works.1 works.0 (caller_of a) (t.entry ∷ t.later) (t.journal ∙ sym (reverse-first t.entry t.later works.0.journal))))
+      (quiet-placed place 0 _ _ (t.entry ∷ t.later) (quiet-packet works.1 works.0 (caller_of a) (t.entry ∷ t.later) (t.journal ∙ sym (reverse-first t.entry t.later works.0.journal))))
       (omega (arith, above, upto)))
   | inr keeps ↦
       (let t = keeps.1 in
-      goes-more n a b [] h.pass h.standing (ap (λ (z : Knowledge PlaceNote). z.mine) t.knows) (All-nil MadeQuiet) (same-last (caller_of a) (caller_of b) t.after))
+      goes-more n a b [] h.pass h.standing (ap (λ (z : Knowledge PlaceNote). z.mine) t.knows) (All-nil MadeQuiet) (look-last _ (caller_of a) (caller_of b) t.after))
 ]
-goes-pump n place a b (Ok (pumps.Idle put worked)) h =
+goes-serve n place a b (Ok (pumps.Idle put worked)) h =
     let t = h.served.1 in
-    goes-more n a b [] h.pass h.standing (ap (λ (z : Knowledge PlaceNote). z.mine) t.knows) (All-nil MadeQuiet) (same-last (caller_of a) (caller_of b) t.after)
-goes-pump n place a b (Err f) h = goes-still n a b h.pass h.standing h.refused.mine h.refused.caller
+    goes-more n a b [] h.pass h.standing (ap (λ (z : Knowledge PlaceNote). z.mine) t.knows) (All-nil MadeQuiet) (look-last _ (caller_of a) (caller_of b) t.after)
+goes-serve n place a b (Err f) h = goes-still n a b h.pass h.standing h.refused.mine h.refused.caller
 
 pub goes-outcome : (n : Nucleus) (x : MsgId) (a b : Pass) (r : Result Outcome CallFault) → IsOutcome n x a b r → Goes n a b
 goes-outcome n x a b r h = goes-still n a b h.pass h.standing h.mine h.caller
@@ -171,7 +174,7 @@ session-took n q p p' got is asks seat taken =
           (holds-taken n got.port p.pass p'.pass got.position got.message settled p.hand.taken.items h is.holds);
     }
 
-pub ruleset calls = (goes-not, goes-make, goes-send, goes-pump, goes-outcome)
+pub ruleset calls = (goes-not, goes-make, goes-send, goes-serve, goes-outcome)
 
 pub ruleset taking = (answered, asks-taken, asks-empty, asks-not-here, asks-refused)
 

@@ -52,7 +52,6 @@ impl Session {
 
     /// What became of a message that the session posted, as [`Nucleus::outcome`] tells, which reads the journal of the session's home
     /// place from end to end.
-    #[tactic(auto, using(crate::proofs::Steps::sessions))]
     pub fn outcome(&mut self, nucleus: &Nucleus, id: MsgId) -> Result<Outcome, CallFault>
         requires { IsSession nucleus.now self.old }
         ensures session { IsSession nucleus.now self.new }

@@ -52,7 +52,7 @@ fn visit<R: Wait>(rt: &R, nucleus: &Nucleus, pass: &mut Pass, place: u16, sums: 
     requires place { has_place (layout_of nucleus.now) place ≡ true }
     ensures { Goes nucleus.now pass.old pass.new }
 {
-    match nucleus.pump(rt, pass, place) {
+    match nucleus.serve(rt, pass, place) {
         Ok(Pump::Idle { put, worked }) => {
             sums.put = sums.put.saturating_add(put);
             sums.worked = sums.worked.saturating_add(worked);

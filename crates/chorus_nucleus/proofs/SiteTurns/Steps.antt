@@ -12,7 +12,8 @@ use Rattle.chorus_entry.specs.declared.packet.Cargo.TheVariants as cargos
 use Rattle.chorus_entry.specs.Command.{meets_conditions, has_body_in_limit, is_post}
 use Rattle.chorus_entry.specs.Places.{place_for}
 use Rattle.chorus_entry.specs.Ranges.{has_ranges}
-use Rattle.chorus_calls.specs.Callers.{Seated}
+use Rattle.chorus_world.specs.Places.{last_clock}
+use Rattle.chorus_calls.specs.Callers.{Seated, raised}
 use Rattle.place_outbox.specs.Waiting.{list_to}
 use Rattle.law_network.specs.Schedules.{has_number_left, may_give}
 use Rattle.law_machine.specs.PlaceState.{PlaceState, greatest_clock}
@@ -23,7 +24,7 @@ use Rattle.chorus_ends.specs.Links.{Links}
 use Rattle.chorus_serve.specs.declared.hand.Held.{Held}
 use Rattle.chorus_serve.specs.Desks.{DeskState, in_hand}
 use Rattle.chorus_serve.specs.Working.{Performs}
-use Rattle.chorus_serve.specs.Serving.{Rests, WorksOff, Answers}
+use Rattle.chorus_serve.specs.Serving.{Rests, WorksOff, KeepsInHand, IsIdle, Answers}
 use Rattle.law_machine.specs.declared.reply.Reply.{Reply}
 use Rattle.chorus_serve.specs.declared.served.Pump.{Pump}
 use Rattle.chorus_serve.specs.declared.served.Pump.TheVariants as pumps
@@ -40,8 +41,8 @@ use Rattle.law_history.specs.PlaceTurns.{turn, may_take, brings_entry, is_other}
 use Rattle.law_closing.specs.Places.{PlaceNote}
 use Rattle.chorus_board.specs.declared.name.BoardName.{BoardName}
 use Rattle.chorus_nucleus.specs.SiteTurns.Sites.{mark, entries, IsJournalOf}
-use Rattle.chorus_nucleus.specs.SiteTurns.Turning.{IsNews, IsNoNews, MayWork, NotesFrom, NotesAct}
-use Rattle.chorus_nucleus.specs.SiteTurns.Jobs.{MayAct, Acted, worked_from, HasWorked}
+use Rattle.chorus_nucleus.specs.SiteTurns.Turning.{IsNews, MayWork, NotesFrom, NotesAct}
+use Rattle.chorus_nucleus.specs.SiteTurns.Jobs.{MayAct, HasSeen, Acted, seen_unless, worked_from, HasWorked}
 use Rattle.chorus_nucleus.proofs.SiteTurns.Turning.{Flows, turned, moved, grown, layout-stays, number-stays}
 
 -- the machine may take the command
@@ -94,9 +95,9 @@ acted d e b w x c r m done links hand worked =
     turned (Input.Command c) d e w x (may-act d b w c m) done.called.ended.state done.called.ended.caller_is (flows-act d e w x c r done links hand worked)
 
 -- a turn without an entry
-pub rested : (d e : DeskState) (w x : Seated) → state e.place ≡ state d.place → Flows None [] d e → x ≡ w → (log : List (Remarked PlaceNote)) → IsJournalOf d log
-    → (news : List (Remarked PlaceNote)) × IsJournalOf e (log ++ news) × IsNoNews w x news
-rested d e w x same f caller log h = ([], moved d e same f log h, (refl, caller))
+pub rested : (d e : DeskState) → state e.place ≡ state d.place → Flows None [] d e → (log : List (Remarked PlaceNote)) → IsJournalOf d log
+    → (news : List (Remarked PlaceNote)) × IsJournalOf e (log ++ news) × (news ≡ [])
+rested d e same f log h = ([], moved d e same f log h, refl)
 
 pub flows-rests : (d e : DeskState) (w x : Seated) → Rests d e w x → Flows None [] d e
 flows-rests d e w x r =
@@ -165,39 +166,47 @@ served-grows (Ok (pumps.Served from)) d e w x place (k, inr h) err = grows-none 
 served-grows (Ok (pumps.Idle put worked)) d e w x place ok err = grows-none w.seat d e ok.0.rests.state
 served-grows (Err f) d e w x place ok err = grows-none w.seat d e err.state
 
-pub served-goes : (z : Place) (r : Result Pump PlaceFault) (d e : DeskState) (w x : Seated) (hold : Bool) → hold ≡ is_some e.hand → z ≡ d.place → has_place d.place.layout d.place.number ≡ true
+pub served-goes : (z : Place) (r : Result Pump PlaceFault) (d e : DeskState) (w x y : Seated) (clock : ℕ) (hold : Bool) → y ≡ seen_unless (worked_from r hold) clock x → hold ≡ is_some e.hand → z ≡ d.place → has_place d.place.layout d.place.number ≡ true
     → IfOk r (λ p. Answers p d e w x) → OnErr r (Rests d e w x) → (log : List (Remarked PlaceNote)) → IsJournalOf d log
-    → (news : List (Remarked PlaceNote)) × IsJournalOf e (log ++ news) × NotesFrom (worked_from r hold) z w x news
-served-goes z (Ok (pumps.Served from)) d e w x hold holds same place (k, inl h) err log j =
+    → (news : List (Remarked PlaceNote)) × IsJournalOf e (log ++ news) × NotesFrom (worked_from r hold) z w y news
+served-goes z (Ok (pumps.Served from)) d e w x y clock hold shown holds same place (k, inl h) err log j =
     (let none : hold ≡ false = holds ∙ ap is_some h.hand in
     let got = worked d e w x from k place h log j in (
       got.0,
       got.1,
-      subst (λ b. NotesFrom (worked_from (Ok (pumps.Served from)) b) z w x got.0) (sym none) (
+      subst (λ b. NotesFrom (worked_from (Ok (pumps.Served from)) b) z w y got.0) (sym none) (
         k,
         subst (λ (q : Place). MayWork from k (state q) w) (sym same) (h.lawful, h.unworn),
-        subst (λ (q : Place). IsNews (Input.Packet from k) (state q) w x got.0) (sym same) got.2,
+        subst (λ (q : Place). IsNews (Input.Packet from k) (state q) w y got.0) (sym same)
+            (subst (λ u. IsNews (Input.Packet from k) (state d.place) w u got.0) (sym (shown ∙ ap (λ b. seen_unless (worked_from (Ok (pumps.Served from)) b) clock x) none)) got.2),
       ),
     ))
-served-goes z (Ok (pumps.Served from)) d e w x hold holds same place (k, inr h) err log j =
+served-goes z (Ok (pumps.Served from)) d e w x y clock hold shown holds same place (k, inr h) err log j =
     (let some : hold ≡ true = holds ∙ ap is_some h.hand in
-    let got = rested d e w x h.rests.state (flows-rests d e w x h.rests) h.rests.caller log j in
-    (got.0, got.1, subst (λ b. NotesFrom (worked_from (Ok (pumps.Served from)) b) z w x got.0) (sym some) got.2))
-served-goes z (Ok (pumps.Idle put done)) d e w x hold holds same place ok err log j = rested d e w x ok.0.rests.state (flows-rests d e w x ok.0.rests) ok.0.rests.caller log j
-served-goes z (Err f) d e w x hold holds same place ok err log j = rested d e w x err.state (flows-rests d e w x err) err.caller log j
+    let got = rested d e h.rests.state (flows-rests d e w x h.rests) log j in
+    (got.0, got.1, subst (λ b. NotesFrom (worked_from (Ok (pumps.Served from)) b) z w y got.0) (sym some) got.2))
+served-goes z (Ok (pumps.Idle put done)) d e w x y clock hold shown holds same place ok err log j = rested d e ok.0.rests.state (flows-rests d e w x ok.0.rests) log j
+served-goes z (Err f) d e w x y clock hold shown holds same place ok err log j = rested d e err.state (flows-rests d e w x err) log j
 
--- and what was done
-pub served-has : (r : Result Pump PlaceFault) (d e : DeskState) (w x : Seated) (hold : Bool) → hold ≡ is_some e.hand → IfOk r (λ p. Answers p d e w x)
-    → OnErr r (Rests d e w x) → HasWorked (worked_from r hold) r w x d e
-served-has (Ok (pumps.Served from)) d e w x hold holds (k, inl h) err =
+-- and what was done: y is the caller that was shown the place
+was-shown : (d e : DeskState) (w x y : Seated) (clock : ℕ) → Rests d e w x → clock ≡ last_clock e.place.journal → y ≡ raised clock x → HasSeen d w y
+was-shown d e w x y clock h at shown =
+    shown ∙ ap (λ c. raised c x) (at ∙ ap (λ (z : PlaceState). last_clock z.journal) h.state) ∙ ap (raised (last_clock d.place.journal)) h.caller
+
+pub served-has : (r : Result Pump PlaceFault) (d e : DeskState) (w x y : Seated) (clock : ℕ) (hold : Bool) → clock ≡ last_clock e.place.journal → y ≡ seen_unless (worked_from r hold) clock x → hold ≡ is_some e.hand
+    → IfOk r (λ p. Answers p d e w x) → OnErr r (Rests d e w x) → HasWorked (worked_from r hold) r w y d e
+served-has (Ok (pumps.Served from)) d e w x y clock hold at shown holds (k, inl h) err =
     (let none : hold ≡ false = holds ∙ ap is_some h.hand in
-    subst (λ b. HasWorked (worked_from (Ok (pumps.Served from)) b) (Ok (pumps.Served from)) w x d e) (sym none) (refl, k, h))
-served-has (Ok (pumps.Served from)) d e w x hold holds (k, inr h) err =
+    let same : y ≡ x = shown ∙ ap (λ b. seen_unless (worked_from (Ok (pumps.Served from)) b) clock x) none in
+    subst (λ b. HasWorked (worked_from (Ok (pumps.Served from)) b) (Ok (pumps.Served from)) w y d e) (sym none) (refl, k, subst (λ u. WorksOff from k d e w u) (sym same) h))
+served-has (Ok (pumps.Served from)) d e w x y clock hold at shown holds (k, inr h) err =
     (let some : hold ≡ true = holds ∙ ap is_some h.hand in
-    subst (λ b. HasWorked (worked_from (Ok (pumps.Served from)) b) (Ok (pumps.Served from)) w x d e) (sym some) (k, h))
-served-has (Ok (pumps.Idle put done)) d e w x hold holds ok err =
-    (let a = ok.0.rests.moved.counted.puts in let b = ok.1 in let n = ok.0.rests.worked in let m = ok.2 in (ok.0, omega (arith, a, b), omega (arith, n, m)))
-served-has (Err f) d e w x hold holds ok err = err
+    let seen = was-shown d e w x y clock h.rests at (shown ∙ ap (λ b. seen_unless (worked_from (Ok (pumps.Served from)) b) clock x) some) in
+    subst (λ b. HasWorked (worked_from (Ok (pumps.Served from)) b) (Ok (pumps.Served from)) w y d e) (sym some) (seen, k, subst (λ u. KeepsInHand from k d e w u) h.rests.caller h))
+served-has (Ok (pumps.Idle put done)) d e w x y clock hold at shown holds ok err =
+    (let a = ok.0.rests.moved.counted.puts in let b = ok.1 in let n = ok.0.rests.worked in let m = ok.2 in
+    (was-shown d e w x y clock ok.0.rests at shown, subst (λ u. IsIdle d e w u) ok.0.rests.caller ok.0, omega (arith, a, b), omega (arith, n, m)))
+served-has (Err f) d e w x y clock hold at shown holds ok err = (was-shown d e w x y clock err at shown, subst (λ u. Rests d e w u) err.caller err)
 
 -- something is in hand, as it is seen
 pub holding : {P : Type 0} (packet : P → Packet) (h : Option (Held P)) → is_some h ≡ is_some (in_hand packet h)
@@ -219,7 +228,13 @@ unworn r g x ok h = elim (cases_lt g CLOCK_LIMIT) [
   | inr le ↦ absurd (let worn : Ok x ≡ Err (faults.Worn g) = sym ok ∙ (h g).1 (le, refl) in cc)
 ]
 
-pub acted-err : (c : Command) (f : PlaceFault) (r : Result Reply PlaceFault) (w : Seated) (d : DeskState) → r ≡ Err f
-    → ((clock : ℕ) → IsErrOf r (faults.Worn clock) ↔ ((CLOCK_LIMIT ≤ greatest_clock (begun (state d.place) w)) × (clock ≡ greatest_clock (begun (state d.place) w)))) → Acted c None (Err f) w d
-acted-err c (faults.Memory none) r w d e h = tt
-acted-err c (faults.Worn clock) r w d e h = (let two = (h clock).0 e in (subst (λ n. CLOCK_LIMIT ≤ n) (sym two.1) two.0, two.1))
+pub acted-err : (c : Command) (f : PlaceFault) (r : Result Reply PlaceFault) (w x : Seated) (d : DeskState) → r ≡ Err f → HasSeen d w x
+    → ((clock : ℕ) → IsErrOf r (faults.Worn clock) ↔ ((CLOCK_LIMIT ≤ greatest_clock (begun (state d.place) w)) × (clock ≡ greatest_clock (begun (state d.place) w)))) → Acted c None (Err f) w x d
+acted-err c (faults.Memory none) r w x d e seen h = (
+  seen,
+  elim (cases_lt (greatest_clock (begun (state d.place) w)) CLOCK_LIMIT) [
+    | inl lt ↦ lt
+    | inr le ↦ absurd (let worn : Err (faults.Memory none) ≡ Err (faults.Worn (greatest_clock (begun (state d.place) w))) = sym e ∙ (h (greatest_clock (begun (state d.place) w))).1 (le, refl) in cc)
+  ],
+)
+acted-err c (faults.Worn clock) r w x d e seen h = (let two = (h clock).0 e in (seen, subst (λ n. CLOCK_LIMIT ≤ n) (sym two.1) two.0, two.1))

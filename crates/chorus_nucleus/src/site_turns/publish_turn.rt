@@ -23,10 +23,12 @@ pub struct Publishes<'a, R> {
     pub rt: &'a R,
     /// A reader of this board, if there is one.
     pub reader: Option<BoardReader>,
+    /// The clock of the place's last entry, as the job found it; 0 before it ran.
+    pub clock: u64,
 }
 
 /// Publishes, in a turn, what the board lacks of its place's journal. The reader, if there is one, is heard before, and follows.
-fn publish_for<R: Wait>(
+pub(crate) fn publish_for<R: Wait>(
     rt: &R,
     board: &mut Board,
     layout: Layout,
@@ -46,7 +48,7 @@ fn publish_for<R: Wait>(
     let Some(mut own) = reader.take() else {
         return publish_missing(rt, board, layout, number, journal);
     };
-    board.hear(rt, &mut own);
+    board.hear(&mut own);
     let done = publish_missing(rt, board, layout, number, journal);
     if done.is_ok() {
         own.follow(board);
@@ -58,6 +60,7 @@ fn publish_for<R: Wait>(
 impl<'a, R: Wait, E: Ends> Job<Site<E>> for Publishes<'a, R> {
     ghost use Rattle.std.specs.Prelude.{◌≡◌, [], OnOk};
     ghost use Rattle.chorus_board.specs.Boards.{entries_published};
+    ghost use Rattle.chorus_world.specs.Places.{last_clock};
     ghost use Rattle.chorus_serve.specs.Desks.{seen};
     ghost use Rattle.chorus_nucleus.specs.SiteTurns.Sites.{entries};
     ghost use Rattle.chorus_nucleus.specs.SiteTurns.Reading.{Follows, AcceptsReader};
@@ -69,7 +72,8 @@ impl<'a, R: Wait, E: Ends> Job<Site<E>> for Publishes<'a, R> {
     ghost ran = { λ j x seat k y out. Follows j.reader k.reader
         (entries (seen E.links E.packet x.desk)) out
         × OnOk out (entries_published y.board ≡ entries (seen E.links E.packet x.desk))
-        × (y.desk ≡ x.desk) };
+        × (y.desk ≡ x.desk)
+        × (k.clock ≡ last_clock (seen E.links E.packet x.desk).place.journal) };
 
     ghost notes = { λ j k news. news ≡ [] };
 
@@ -79,6 +83,7 @@ impl<'a, R: Wait, E: Ends> Job<Site<E>> for Publishes<'a, R> {
         let layout = place.layout();
         let _sites = layout.sites();
         let number = place.number();
+        self.clock = place.clock();
         publish_for(
             self.rt,
             &mut state.board,

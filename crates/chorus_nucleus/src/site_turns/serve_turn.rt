@@ -1,7 +1,7 @@
 //! A place serves its links, in one turn.
 ghost use Rattle.std.specs.Prelude.{◌≡◌};
 ghost use Rattle.chorus_serve.specs.Desks.{seen};
-ghost use Rattle.chorus_nucleus.specs.SiteTurns.Jobs.{worked_from};
+ghost use Rattle.chorus_nucleus.specs.SiteTurns.Jobs.{seen_unless, worked_from};
 
 use crate::site_turns::site::Site;
 use chorus_calls::Caller;
@@ -34,6 +34,16 @@ fn worked_from(done: &Result<Pump, PlaceFault>, holding: bool) -> Option<u16>
     }
 }
 
+/// The caller has seen an entry with this clock, unless a packet was worked off: then its own is above that already.
+fn see_unless(took: Option<u16>, caller: &mut Caller, clock: u64)
+    ensures { caller.new ≡ seen_unless took clock caller.old }
+{
+    match took {
+        None => caller.see(clock),
+        Some(_) => {}
+    }
+}
+
 impl<'a, R, E: Moves<R>> Job<Site<E>> for Serves<'a, R> {
     ghost use Rattle.chorus_nucleus.specs.SiteTurns.Turning.{NotesServe};
     ghost use Rattle.chorus_nucleus.specs.SiteTurns.Jobs.{ServedAt};
@@ -54,6 +64,8 @@ impl<'a, R, E: Moves<R>> Job<Site<E>> for Serves<'a, R> {
         self.before = Some(Snapshot::of(place));
         let done = serve(&mut state.desk, self.rt, &mut self.caller);
         self.took = worked_from(&done, state.desk.is_holding());
+        let clock = state.desk.place().clock();
+        see_unless(self.took, &mut self.caller, clock);
         done
     }
 }

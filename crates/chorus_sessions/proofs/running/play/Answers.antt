@@ -34,3 +34,6 @@ retire_all-requires-clause-sessions g c =
     let same = c.run_to_the_end-ran.auto.sessions in
     let written = with_items_is before after (same ∙ c.deref_mut.ensures.len) in
     subst (λ (ps : List Session). AreSessions n ps) (sym written) (have-run n c.deref_mut.result.now after same c.run_to_the_end-ran.ensures.sessions)
+
+pub returns-in_err-make_ports-clause-back : goal.returns-in_err-make_ports-clause-back
+returns-in_err-make_ports-clause-back g c = all-back 0 _ (keeper-goes c.args.nucleus.now 0 0 c.args.pass.now c.make_ports.new.pass c.make_ports.ensures c.requires.keeper)

@@ -13,7 +13,7 @@ returns-then-place-place_at g c =
     let home = home-is n.layout old.caller c.actor-actor.result c.site.result c.place_at.result c.actor-actor.ensures c.site.ensures.value c.place_at.ensures.value in
     at-home n c.args.place old with.new.turner c.requires.pass with.ensures.turner with.ensures.standing with.result.0 record { reader = with.result.0; spare = old.sight.spare } with.result.1
     (c.if-place-place_at.true ∙ home) refl refl with.ensures.reader
-    (λ w h. subst (λ o. PublishDone n.layout (handed n.turns) c.args.place o with.result.0 with.result.1 (known old.turner) (known with.new.turner) w) c.take-own.ensures.value (with.ensures.done w h))
+    with.new.caller (subst (λ o. PublishDone n.layout (handed n.turns) c.args.place o with.result.0 with.result.1 (known old.turner) (known with.new.turner) old.caller with.new.caller) c.take-own.ensures.value (with.ensures.done c.requires.pass.caller))
 
 pub returns-else-place-place_at : goal.returns-else-place-place_at
 returns-else-place-place_at g c =
@@ -21,4 +21,4 @@ returns-else-place-place_at g c =
     let old = c.args.pass.now in
     let with = c.publish_with-done in
     let home = home-is n.layout old.caller c.actor-actor.result c.site.result c.place_at.result c.actor-actor.ensures c.site.ensures.value c.place_at.ensures.value in
-    away n c.args.place old with.new.turner c.requires.pass with.ensures.turner with.ensures.standing with.result.0 with.result.1 (λ e. c.if-place-place_at.false (e ∙ sym home)) with.ensures.done
+    away n c.args.place old with.new.turner c.requires.pass with.ensures.turner with.ensures.standing with.result.0 with.result.1 (λ e. c.if-place-place_at.false (e ∙ sym home)) with.new.caller (with.ensures.done c.requires.pass.caller)

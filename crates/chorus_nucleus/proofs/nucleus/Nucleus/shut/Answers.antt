@@ -14,6 +14,7 @@ returns-in-Ok-clause-ok c =
     let w = c.args.pass.caller in
     record {
       worn = refl;
+      behind = is.caller.behind;
       left = ok.0;
       shape = is.sites.shape;
       count = many l handed-in ss is.sites v w is.caller ok.1;
