@@ -28,6 +28,7 @@ abbrev made : ℕ → ℕ → Command → Placed PlaceNote
 made seat clock command =
     record {
       place = 1;
+      seen = [];
       remarked = record {
         entry = record { clock = clock; place = 1; seat = seat; act = Act.NoCall };
         remark = record {

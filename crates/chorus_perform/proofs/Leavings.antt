@@ -20,6 +20,7 @@ use Rattle.law_closing.specs.Remarks.{turns_in}
 use Rattle.chorus_calls.specs.Callers.{Seated}
 use Rattle.chorus_scene.specs.Scene.{Scene, Script}
 use Rattle.chorus_report.specs.Setup.{setup_commands}
+use Rattle.chorus_nucleus.proofs.Behind.{more-itself, more-more, shown-more}
 use Rattle.chorus_nucleus.specs.declared.nucleus.Nucleus.{Nucleus}
 use Rattle.chorus_nucleus.specs.declared.pass.Pass.{Pass}
 use Rattle.chorus_nucleus.specs.Passes.{known, caller_of}
@@ -128,7 +129,7 @@ retired-none c m a none = record {
   mine = refl;
   keeper = refl;
   made = refl;
-  caller = refl;
+  caller = more-itself (caller_of a);
 }
 
 abbrev LaterThan : ℕ → Note PlaceNote → Type 0
@@ -144,7 +145,7 @@ retired-more n c all r a b d m count e o w = record {
   mine = ap (λ (v : Knowledge PlaceNote). v.mine) w.knows ∙ e.mine;
   keeper = ap (λ (v : Knowledge PlaceNote). v.keeper) w.knows ∙ ap (λ k. if k then true else (known b).keeper) o.keeper ∙ e.keeper;
   made = ap (λ (v : Knowledge PlaceNote). v.made) w.knows ∙ ap (λ k. if k then (known r.pass).made else (known b).made) o.keeper ∙ e.made;
-  caller = w.caller ∙ e.caller;
+  caller = more-more (caller_of a) (caller_of b) (caller_of d) e.caller (shown-more (caller_of r.pass).last (caller_of b) (caller_of d) w.caller);
 }
   where
     note : Note PlaceNote

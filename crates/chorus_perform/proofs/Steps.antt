@@ -8,12 +8,15 @@ use Rattle.chorus_ui.specs.declared.layout.Layout.{Layout}
 use Rattle.chorus_entry.specs.declared.entry.Entry.{Entry}
 use Rattle.chorus_entry.specs.declared.command.Command.{Command}
 use Rattle.chorus_entry.specs.declared.packet.Packet.{Packet}
-use Rattle.chorus_calls.specs.Callers.{Seated}
+use Rattle.chorus_calls.specs.Callers.{Seated, raised}
+use Rattle.chorus_world.specs.Places.{last_clock}
+use Rattle.chorus_nucleus.proofs.Behind.{more-up}
 use Rattle.law_machine.specs.declared.reply.Reply.{Reply}
 use Rattle.law_machine.specs.PlaceState.{PlaceState}
 use Rattle.chorus_serve.specs.declared.served.Pump.{Pump}
 use Rattle.chorus_serve.specs.declared.served.Pump.TheVariants as pumps
 use Rattle.chorus_turn.specs.declared.knowledge.Placed.{Placed}
+use Rattle.chorus_turn.specs.declared.knowledge.Remarked.{Remarked}
 use Rattle.chorus_turn.specs.declared.knowledge.Knowledge.{Knowledge}
 use Rattle.chorus_turn.specs.Journals.{with_place}
 use Rattle.law_history.specs.declared.turns.Input.{Input}
@@ -29,7 +32,7 @@ use Rattle.chorus_nucleus.specs.declared.nucleus.Nucleus.{Nucleus}
 use Rattle.chorus_nucleus.specs.declared.pass.Pass.{Pass}
 use Rattle.chorus_nucleus.specs.declared.fault.CallFault.{CallFault}
 use Rattle.chorus_nucleus.specs.Passes.{layout_of, known, caller_of}
-use Rattle.chorus_nucleus.specs.Calls.{gave, IsCall, IsPump, Serves}
+use Rattle.chorus_nucleus.specs.Calls.{gave, IsCall, IsServe, Serves}
 use Rattle.law_closing.specs.Actors.{AreIn}
 use Rattle.chorus_perform.specs.Going.{Goes, GoesAsFar, Rises, BeginAbove, BeginsUpTo, CommandsUpTo}
 
@@ -83,18 +86,18 @@ goes-later xs a b c g h = goes-then [] xs a b c g h
 
 -- What a call of the nucleus made.
 
-before-in : (p n : ℕ) (r : PlaceNote) (es : List Entry) → AreIn r.before.actor (with_place p (numbered n r es))
-before-in p n r [] = All-nil (IsIn r.before.actor)
-before-in p n r (e ∷ es) =
-    All-cons (IsIn r.before.actor) (record { place = p; remarked = record { entry = e; remark = record r { nth = n } } }) (with_place p (numbered (n + 1) r es)) refl
-    (before-in p (n + 1) r es)
+before-in : (p n : ℕ) (seen : List (List (Remarked PlaceNote))) (r : PlaceNote) (es : List Entry) → AreIn r.before.actor (with_place p seen (numbered n r es))
+before-in p n seen r [] = All-nil (IsIn r.before.actor)
+before-in p n seen r (e ∷ es) =
+    All-cons (IsIn r.before.actor) (record { place = p; seen = seen; remarked = record { entry = e; remark = record r { nth = n } } }) (with_place p seen (numbered (n + 1) r es)) refl
+    (before-in p (n + 1) seen r es)
 
 -- a turn's entries are in the caller's actor
 turn-in : (l : Layout) (p : ℕ) (i : Input Command Packet) (s : PlaceState) (v : Knowledge PlaceNote) (w : Seated) (u : Knowledge PlaceNote) (x : Seated) → TakesTurn l p i s v w u x → AreIn w.actor v.mine → AreIn w.actor u.mine
 turn-in l p i s v w u x t all =
     let r = noted (machine l) p i s w in
-    let news = with_place p (remarked r (t.entry ∷ t.later)) in
-    subst (AreIn w.actor) (sym (ap (λ (k : Knowledge PlaceNote). k.mine) t.knows)) (All-append (IsIn w.actor) v.mine news all (before-in p 0 r (t.entry ∷ t.later)))
+    let news = with_place p v.seen (remarked r (t.entry ∷ t.later)) in
+    subst (AreIn w.actor) (sym (ap (λ (k : Knowledge PlaceNote). k.mine) t.knows)) (All-append (IsIn w.actor) v.mine news all (before-in p 0 v.seen r (t.entry ∷ t.later)))
 
 -- it is one turn more, which began above the caller's clock, and at most at the one that the caller then has
 record Took (i : Input Command Packet) (v : Knowledge PlaceNote) (w : Seated) (u : Knowledge PlaceNote) (x : Seated) : Type 0 where
@@ -115,8 +118,8 @@ took l p i s v w u x t =
     record {
       taken = turn_of p (record { entry = t.entry; remark = r });
       is =
-          ap (λ (k : Knowledge PlaceNote). turns_in k.mine) t.knows ∙ turns_in-append v.mine (with_place p news)
-          ∙ ap (λ ts. turns_in v.mine ++ ts) (turns_in-placed p news ∙ turns_at-remarked p r t.entry t.later);
+          ap (λ (k : Knowledge PlaceNote). turns_in k.mine) t.knows ∙ turns_in-append v.mine (with_place p v.seen news)
+          ∙ ap (λ ts. turns_in v.mine ++ ts) (turns_in-placed p v.seen news ∙ turns_at-remarked p r t.entry t.later);
       input = refl;
       above = omega (arith, clock, high);
       up_to = omega (arith, clock, low, last);
@@ -152,9 +155,9 @@ rises-packet from k a b t = record {
   up_to = λ clock how all. took-up-to (Input.Packet from k) (known a) (caller_of a) (known b) (caller_of b) t clock tt all;
 }
 
-rises-none : (a b : Pass) → (known b).mine ≡ (known a).mine → caller_of b ≡ caller_of a → Rises [] a b
-rises-none a b same caller = record {
-  last = (let e = ap (λ (w : Seated). w.last) caller in omega (arith, e));
+rises-none : (a b : Pass) → (known b).mine ≡ (known a).mine → (caller_of a).last ≤ (caller_of b).last → Rises [] a b
+rises-none a b same up = record {
+  last = up;
   above = λ clock le all. subst (λ mine. BeginAbove clock (turns_in mine)) (sym same) all;
   up_to = λ clock how all. subst (λ mine. CommandsUpTo clock (turns_in mine)) (sym same) all;
 }
@@ -165,18 +168,22 @@ same-in actor xs ys is all = subst (AreIn actor) (sym is) all
 look-mine : (l : Layout) (p : ℕ) (s : PlaceState) (v : Knowledge PlaceNote) (w : Seated) (u : Knowledge PlaceNote) (x : Seated) → Looks l p s v w u x → u.mine ≡ v.mine
 look-mine l p s v w u x t = ap (λ (k : Knowledge PlaceNote). k.mine) t.knows ∙ append-nil v.mine
 
-serve-in : (l : Layout) (p : ℕ) (pump : Pump) (v : Knowledge PlaceNote) (w : Seated) (u : Knowledge PlaceNote) (x : Seated) → Serves l p pump v w u x → AreIn w.actor v.mine → AreIn w.actor u.mine
-serve-in l p (pumps.Served from) v w u x (inl turn) all = turn-in l p (Input.Packet from turn.1) turn.0 v w u x turn.2 all
-serve-in l p (pumps.Served from) v w u x (inr look) all = same-in w.actor v.mine u.mine (look-mine l p look.0 v w u x look.1) all
-serve-in l p (pumps.Idle put worked) v w u x look all = same-in w.actor v.mine u.mine (look-mine l p look.0 v w u x look.1) all
+serve-in : (n : Nucleus) (p : ℕ) (pump : Pump) (v : Knowledge PlaceNote) (w : Seated) (u : Knowledge PlaceNote) (x : Seated) → Serves n p pump v w u x → AreIn w.actor v.mine → AreIn w.actor u.mine
+serve-in n p (pumps.Served from) v w u x (inl turn) all = turn-in (layout_of n) p (Input.Packet from turn.1) turn.0 v w u x turn.2 all
+serve-in n p (pumps.Served from) v w u x (inr look) all = same-in w.actor v.mine u.mine (look-mine (layout_of n) p look.0 v w u x look.1) all
+serve-in n p (pumps.Idle put worked) v w u x look all = same-in w.actor v.mine u.mine (look-mine (layout_of n) p look.0 v w u x look.1) all
 
-serve-rises : (l : Layout) (p : ℕ) (pump : Pump) (a b : Pass) → Serves l p pump (known a) (caller_of a) (known b) (caller_of b) → Rises [] a b
-serve-rises l p (pumps.Served from) a b (inl turn) =
-    rises-packet from turn.1 a b (took l p (Input.Packet from turn.1) turn.0 (known a) (caller_of a) (known b) (caller_of b) turn.2)
-serve-rises l p (pumps.Served from) a b (inr look) =
-    rises-none a b (look-mine l p look.0 (known a) (caller_of a) (known b) (caller_of b) look.1) look.1.after
-serve-rises l p (pumps.Idle put worked) a b look =
-    rises-none a b (look-mine l p look.0 (known a) (caller_of a) (known b) (caller_of b) look.1) look.1.after
+-- a look raises the caller's clock, if anything
+look-up : (s : PlaceState) (w x : Seated) → x ≡ raised (last_clock s.journal) w → w.last ≤ x.last
+look-up s w x e = (let last = ap (λ (z : Seated). z.last) e in omega (arith, last))
+
+serve-rises : (n : Nucleus) (p : ℕ) (pump : Pump) (a b : Pass) → Serves n p pump (known a) (caller_of a) (known b) (caller_of b) → Rises [] a b
+serve-rises n p (pumps.Served from) a b (inl turn) =
+    rises-packet from turn.1 a b (took (layout_of n) p (Input.Packet from turn.1) turn.0 (known a) (caller_of a) (known b) (caller_of b) turn.2)
+serve-rises n p (pumps.Served from) a b (inr look) =
+    rises-none a b (look-mine (layout_of n) p look.0 (known a) (caller_of a) (known b) (caller_of b) look.1) (look-up look.0 (caller_of a) (caller_of b) look.1.after)
+serve-rises n p (pumps.Idle put worked) a b look =
+    rises-none a b (look-mine (layout_of n) p look.0 (known a) (caller_of a) (known b) (caller_of b) look.1) (look-up look.0 (caller_of a) (caller_of b) look.1.after)
 
 pub goes-call : (n : Nucleus) (c : Command) (a b : Pass) (r : Reply) → IsCall n c a b (Ok r) → Goes (c ∷ []) a b
 goes-call n c a b r h = record {
@@ -195,25 +202,25 @@ goes-refused n c a b f h = record {
   same = h.standing;
   actor = h.grows.actor;
   posts = (let e = ap (λ (w : Seated). w.posts) h.refused.caller in omega (arith, e));
-  rises = rises-none a b h.refused.mine h.refused.caller;
+  rises = rises-none a b h.refused.mine (more-up (caller_of a) (caller_of b) h.refused.caller);
 }
 
-pub goes-pump : (n : Nucleus) (p : ℕ) (a b : Pass) (r : Result Pump CallFault) → IsPump n p a b r → Goes [] a b
-goes-pump n p a b (Ok pump) h = record {
+pub goes-serve : (n : Nucleus) (p : ℕ) (a b : Pass) (r : Result Pump CallFault) → IsServe n p a b r → Goes [] a b
+goes-serve n p a b (Ok pump) h = record {
   gave_is = h.gave_is ∙ sym (append-nil (gave (known a)));
-  within = serve-in (layout_of n) p pump (known a) (caller_of a) (known b) (caller_of b) h.served;
+  within = serve-in n p pump (known a) (caller_of a) (known b) (caller_of b) h.served;
   same = h.standing;
   actor = h.stays.actor;
   posts = omega (arith, h.stays.posts);
-  rises = serve-rises (layout_of n) p pump a b h.served;
+  rises = serve-rises n p pump a b h.served;
 }
-goes-pump n p a b (Err f) h = record {
+goes-serve n p a b (Err f) h = record {
   gave_is = h.gave_is ∙ sym (append-nil (gave (known a)));
   within = same-in (caller_of a).actor (known a).mine (known b).mine h.refused.mine;
   same = h.standing;
   actor = h.stays.actor;
   posts = omega (arith, h.stays.posts);
-  rises = rises-none a b h.refused.mine h.refused.caller;
+  rises = rises-none a b h.refused.mine (more-up (caller_of a) (caller_of b) h.refused.caller);
 }
 
 -- Of a list of commands, one more.

@@ -12,6 +12,7 @@ use Rattle.law_closing.specs.Places.{PlaceNote}
 use Rattle.law_closing.specs.Remarks.{turns_in}
 use Rattle.chorus_scene.specs.Scene.{Scene, Script}
 use Rattle.chorus_report.specs.Setup.{setup_commands}
+use Rattle.chorus_nucleus.specs.SiteTurns.Turning.{HasSeenMore}
 use Rattle.chorus_nucleus.specs.declared.nucleus.Nucleus.{Nucleus}
 use Rattle.chorus_nucleus.specs.declared.pass.Pass.{Pass}
 use Rattle.chorus_nucleus.specs.Passes.{known, caller_of, IsPassOf}
@@ -87,7 +88,7 @@ pub record AreEnding (n : Nucleus) (c : Scene) (begun : ℕ) (rs : List Runner) 
   pub each : (i : ℕ) (d : Runner) → i < length rs → IsEndingAt n c begun i (slice_index_or rs i d)
 
 -- the pass has the notes of the scripts from the index m on, that of the first last, whose turns began above its
--- caller's clock, and all else is as it was
+-- caller's clock; its caller was shown what they had seen, and all else is as it was
 pub record HasRetired (all : Bool) (c : Scene) (m count : ℕ) (a b : Pass) : Type 0 where
   pub later : All (λ (x : Note PlaceNote). BeginAbove (caller_of a).last (turns_in x.mine)) (known b).notes
   pub notes : length (known b).notes ≡ count
@@ -97,4 +98,4 @@ pub record HasRetired (all : Bool) (c : Scene) (m count : ℕ) (a b : Pass) : Ty
   pub mine : (known b).mine ≡ (known a).mine
   pub keeper : (known b).keeper ≡ (known a).keeper
   pub made : (known b).made ≡ (known a).made
-  pub caller : caller_of b ≡ caller_of a
+  pub caller : HasSeenMore (caller_of a) (caller_of b)

@@ -1,7 +1,9 @@
 //! Performing a scenario on a nucleus.
 
-ghost use Rattle.std.specs.Prelude.{◌≡◌, ℕ, true, false, OnOk, OnErr, IsErrOf, Some};
+ghost use Rattle.std.specs.Prelude.{◌≡◌, ℕ, true, false, OnOk, OnErr, IsErrOf, Some, None};
+ghost use Rattle.std.specs.declared.alloc.AllocError.{AllocError};
 ghost use Rattle.chorus_scene.specs.Limits.{Keeps};
+ghost use Rattle.chorus_nucleus.specs.SiteTurns.Turning.{HasSeenMore};
 ghost use Rattle.chorus_nucleus.specs.Passes.{caller_of, known, layout_of, worn_by, IsPassOf};
 ghost use Rattle.chorus_perform.specs.Rounds.{IsEven};
 ghost use Rattle.chorus_perform.specs.Scripts.{HasPerformed, IsOpening};
@@ -25,7 +27,8 @@ use std::thread::Threads;
 /// The schedule is not used.
 ///
 /// Want of memory in one thread ends that thread alone. `Stopped` comes when all have come to an end: every pass that was entered is
-/// retired, and each performed the first of its commands. `Worn` comes only with the clock that `pass.worn()` then has.
+/// retired, and each performed the first of its commands. `Worn` comes only with the clock that `pass.worn()` then has, `Memory` only
+/// where that has none.
 pub fn perform<R: Threads + Wait + Sync, G: Gate>(
     alloc: Global,
     rt: &R,
@@ -43,6 +46,8 @@ pub fn perform<R: Threads + Wait + Sync, G: Gate>(
     ensures stopped { OnErr result (HasPerformed false scenario.now (known pass.new)) }
     ensures worn { (clock : ℕ) → IsErrOf result (Stopped.Worn clock) →
         worn_by pass.new ≡ Some clock }
+    ensures memory { (none : AllocError) → IsErrOf result (Stopped.Memory none) →
+        worn_by pass.new ≡ None }
 {
     match perform_all(alloc, rt, nucleus, pass, scenario, gate) {
         Ok(()) => Ok(()),
@@ -90,7 +95,7 @@ fn run_scripts<R: Threads + Wait + Sync, G: Gate>(
     requires keeps { Keeps scenario.now }
     ensures pass { IsPassOf nucleus.now pass.new }
     ensures performed { HasPerformed result scenario.now (known pass.new) }
-    ensures caller { caller_of pass.new ≡ caller_of pass.old }
+    ensures caller { HasSeenMore (caller_of pass.old) (caller_of pass.new) }
 {
     let Ok(mut runners) = Vec::with_capacity(alloc, scenario.scripts().len()) else {
         return false;

@@ -51,7 +51,7 @@ fn pump<R: Wait>(rt: &R, nucleus: &Nucleus, pass: &mut Pass, place: u16) -> Resu
     ensures pass { IsPassOf nucleus.now pass.new }
     ensures goes { Goes [] pass.old pass.new }
 {
-    match nucleus.pump(rt, pass, place) {
+    match nucleus.serve(rt, pass, place) {
         Ok(Pump::Served { from }) => Ok(Pumped::Served { from }),
         Ok(Pump::Idle { put, worked }) => Ok(Pumped::Idle {
             under_way: put.wrapping_sub(worked),

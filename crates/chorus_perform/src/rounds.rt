@@ -98,7 +98,7 @@ fn visit<R: Wait>(
     ensures round { sums.new.idle ≡ true →
         IsRound (index + 1) sums.new.put sums.new.worked (known pass.new) }
 {
-    match nucleus.pump(rt, pass, index + 1) {
+    match nucleus.serve(rt, pass, index + 1) {
         Ok(Pump::Idle { put, worked }) => {
             sums.put = sums.put.saturating_add(put);
             sums.worked = sums.worked.saturating_add(worked);

@@ -1,6 +1,7 @@
 //! Why a scenario was not performed.
 
-ghost use Rattle.std.specs.Prelude.{◌≡◌, ℕ, Some};
+ghost use Rattle.std.specs.Prelude.{◌≡◌, ℕ, Some, None};
+ghost use Rattle.std.specs.declared.alloc.AllocError.{AllocError};
 ghost use Rattle.chorus_nucleus.specs.Passes.{worn_by};
 
 use chorus_nucleus::Pass;
@@ -22,7 +23,8 @@ pub struct Halted;
 
 /// Why all threads stopped, when all passes of the scripts were retired into this one.
 pub(crate) fn reason(pass: &Pass) -> Stopped
-    ensures { (clock : ℕ) → result ≡ Stopped.Worn clock → worn_by pass.now ≡ Some clock }
+    ensures worn { (clock : ℕ) → result ≡ Stopped.Worn clock → worn_by pass.now ≡ Some clock }
+    ensures memory { (none : AllocError) → result ≡ Stopped.Memory none → worn_by pass.now ≡ None }
 {
     match pass.worn() {
         Some(clock) => Stopped::Worn { clock },

@@ -27,6 +27,7 @@ use Rattle.chorus_nucleus.specs.declared.nucleus.Nucleus.{Nucleus}
 use Rattle.chorus_nucleus.specs.declared.pass.Pass.{Pass}
 use Rattle.chorus_nucleus.specs.Passes.{known, layout_of}
 use Rattle.chorus_nucleus.specs.Closing.{IsClosed}
+use Rattle.chorus_nucleus.proofs.Running.{a-closed-nucleus-is-a-run}
 use Rattle.chorus_perform.specs.Scripts.{IsSetUpFirst}
 use Rattle.chorus_run.specs.Threads.{HasOwn, HasOwnIn, IsClosedBy, IsOfNucleus}
 
@@ -70,6 +71,7 @@ is-closed-by n last closed h = record {
   noted = all-at (known last).notes (λ p journal found.
       All-weaker (λ (m : Note PlaceNote). by_seat m.seat (h.closes.log (p + 1)) ≡ at_place (p + 1) m.mine) (λ (m : Note PlaceNote). HasOwn (p + 1) journal m.seat m.mine)
       (λ m s. has-own (p + 1) m.seat journal (h.closes.log (p + 1)) m.mine (h.closes.entries p journal found) s) (known last).notes (shows p journal found).noted);
+  follows = (a-closed-nucleus-is-a-run (layout_of n) (known last) h.comers closed h.shape h.closes).follows;
 }
   where
     all-at : (notes : List (Note PlaceNote)) → ((p : ℕ) (journal : List Entry) → slice_get (closed_journals closed) p ≡ Some journal → All (λ (m : Note PlaceNote). HasOwn (p + 1) journal m.seat m.mine) notes) → All (λ (m : Note PlaceNote). HasOwnIn closed m.seat m.mine) notes

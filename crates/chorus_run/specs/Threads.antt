@@ -3,6 +3,7 @@
 use Rattle.std.specs.Prelude.{ℕ, ◌≡◌, ◌≤◌, ◌+◌, List, Option, Some, slice_get}
 use Rattle.std.specs.List.{All}
 use Rattle.chorus_ui.specs.declared.limits.TheConstants.{CLOCK_LIMIT}
+use Rattle.chorus_ui.specs.Layout.{places}
 use Rattle.chorus_net.specs.declared.closed.Closed.{Closed}
 use Rattle.chorus_net.specs.Closing.{closed_journals, merge_of, worn_of}
 use Rattle.chorus_entry.specs.declared.entry.Entry.{Entry}
@@ -10,13 +11,14 @@ use Rattle.chorus_world.specs.Views.{by}
 use Rattle.chorus_turn.specs.declared.knowledge.Placed.{Placed}
 use Rattle.chorus_turn.specs.declared.knowledge.Note.{Note}
 use Rattle.chorus_turn.specs.Journals.{at_place, entries_of}
+use Rattle.law_closing.specs.Behind.{AllFollow}
 use Rattle.law_closing.specs.Places.{PlaceNote}
 use Rattle.chorus_scene.specs.Scene.{Scene}
 use Rattle.chorus_show.specs.declared.status.Status.{Status}
 use Rattle.chorus_show.specs.declared.status.Status.TheVariants.{Worn}
 use Rattle.chorus_nucleus.specs.declared.nucleus.Nucleus.{Nucleus}
 use Rattle.chorus_nucleus.specs.declared.pass.Pass.{Pass}
-use Rattle.chorus_nucleus.specs.Passes.{known}
+use Rattle.chorus_nucleus.specs.Passes.{known, layout_of}
 use Rattle.chorus_nucleus.specs.Closing.{IsClosed}
 use Rattle.chorus_perform.specs.Scripts.{IsSetUpFirst}
 use Rattle.chorus_perform.specs.declared.stopped.Stopped.{Stopped}
@@ -35,11 +37,13 @@ HasOwnIn closed seat mine =
     HasOwn (p + 1) journal seat mine
 
 -- It is this nucleus that was closed, by this pass. The entries of the seat of the pass, and of each pass that was
--- retired into it, are in each journal just those that the pass made at that place.
+-- retired into it, are in each journal just those that the pass made at that place; and in the merge each of them stands
+-- behind all that its pass had seen before it made it, at whatever place.
 pub record IsClosedBy (n : Nucleus) (last : Pass) (closed : Closed) : Type 0 where
   pub closes : IsClosed n last closed
   pub own : HasOwnIn closed (known last).seat (known last).mine
   pub noted : All (λ (m : Note PlaceNote). HasOwnIn closed m.seat m.mine) (known last).notes
+  pub follows : AllFollow (places (layout_of n)) (merge_of closed) (known last)
 
 -- It is this nucleus that was closed, by the pass of seat 0. What that pass itself was asked, the setup, stands before
 -- all that the others made.

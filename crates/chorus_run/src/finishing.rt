@@ -1,6 +1,6 @@
 //! The end of a run: what was closed is printed in parts, and written.
 
-ghost use Rattle.std.specs.Prelude.{◌≡◌, ◌⊎◌, Some, IfOk, IfSome, OnOk};
+ghost use Rattle.std.specs.Prelude.{◌≡◌, ◌⊎◌, ℕ, Some, Ok, IfOk, IfSome, OnOk};
 ghost use Rattle.chorus_io.specs.Count.{Rose};
 ghost use Rattle.chorus_net.specs.Closing.{merge_of};
 ghost use Rattle.chorus_report.specs.Ending.{EndsWriting, HasWorn, IsFinished};
@@ -30,6 +30,8 @@ pub(crate) fn finish<R: Threads + Sync, K: Sink>(
     ensures writes { EndsWriting (text_of result.closed) result
         K.held K.faults sink.old sink.new }
     ensures finished { IfSome result.closed (IsFinished played result.status) }
+    ensures worn { (whole : Played) (clock : ℕ) → played ≡ Ok whole → whole.worn ≡ Some clock →
+        result.status ≡ Status.Worn clock }
     ensures within { IfSome result.closed (AreWithinUnless result.status) }
 {
     let Ok(played) = played else {

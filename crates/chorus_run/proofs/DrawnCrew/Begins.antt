@@ -4,8 +4,9 @@ use Rattle.std.proofs.lemmas.Bool.{and_parts, eqb-true}
 use Rattle.chorus_ui.specs.declared.layout.Layout.{Layout}
 use Rattle.chorus_ui.specs.Layout.{has_actor}
 use Rattle.chorus_ui.specs.NameKind.{is_actor}
-use Rattle.chorus_calls.specs.Callers.{Seated}
+use Rattle.chorus_calls.specs.Callers.{Seated, raised}
 use Rattle.law_history.specs.Histories.{Follows}
+use Rattle.law_history.specs.PlaceTurns.{machine}
 use Rattle.law_closing.specs.Remarks.{turns_in}
 use Rattle.law_closing.specs.Places.{is_new}
 use Rattle.chorus_nucleus.specs.declared.nucleus.Nucleus.{Nucleus}
@@ -28,9 +29,10 @@ new-posts l q w h =
 pub opening-posts : (n : Nucleus) (p : Pass) → IsPassOf n p → IsOpening p → (caller_of p).posts ≡ 0
 opening-posts n p h o =
     let t = h.caller.thread in
-    let follows : Follows t.first (turns_in (known p).mine) t.last = t.follows in
-    let nothing : t.first ≡ t.last = subst (λ mine. Follows t.first (turns_in mine) t.last) o.mine follows in
-    ap (λ (w : Seated). w.posts) (sym (nothing ∙ h.caller.last)) ∙ new-posts (layout_of n) (known p).seat t.first t.new
+    let m = machine (layout_of n) in
+    let follows : Follows m t.first (turns_in (known p).mine) t.last = t.follows in
+    let nothing : t.first ≡ t.last = subst (λ mine. Follows m t.first (turns_in mine) t.last) o.mine follows in
+    ap (λ (w : Seated). w.posts) (h.caller.last ∙ ap (raised (caller_of p).last) (sym nothing)) ∙ new-posts (layout_of n) (known p).seat t.first t.new
 
 pub keeps-on : (a b : Pass) → IsOpening a → IsSamePass (known a) (known b) → IsKeeper 0 b
 keeps-on a b o same = record {

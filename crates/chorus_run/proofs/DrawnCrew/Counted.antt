@@ -57,6 +57,7 @@ crew-tallied n last closed first commands handled sites few by h =
       within = h.within;
       ended = h.ended;
       before = h.before;
+      was = h.was;
       settled = h.settled;
       handled_is = h.handled_is;
     })

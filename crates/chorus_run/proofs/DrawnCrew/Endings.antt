@@ -21,7 +21,7 @@ use Rattle.chorus_net.specs.Closing.{merge_of, worn_in}
 use Rattle.chorus_show.specs.declared.status.Status.{Status}
 use Rattle.chorus_nucleus.specs.declared.nucleus.Nucleus.{Nucleus}
 use Rattle.chorus_nucleus.specs.declared.pass.Pass.{Pass}
-use Rattle.chorus_nucleus.specs.Passes.{caller_of, layout_of, known, worn_by}
+use Rattle.chorus_nucleus.specs.Passes.{caller_of, layout_of, known, worn_by, IsPassOf}
 use Rattle.chorus_report.specs.declared.finished.Finished.{Finished}
 use Rattle.chorus_report.specs.Headline.{HasClock}
 use Rattle.chorus_report.specs.Output.{EndsUnread, HandsOut, Writes}
@@ -58,32 +58,32 @@ all-ended n b c k r =
     let notes : length (known c).notes ≡ length r.news = ap (λ (ns : List (Note PlaceNote)). length ns) (r.notes ∙ ap (λ (ns : List (Note PlaceNote)). ns ++ r.news) k.notes) in
     omega (arith, made, drawn, notes)
 
-pub crewed : (n : Nucleus) (first commands : ℕ) (handled : List Handled) (a b c : Pass) → IsOpening a → IsKeeper 0 b → Goes (crew_commands first commands) a b → IsEven (layout_of n) (known b) → IsRetired n b c → HasHandled message_value n crew_pairs handled b c → HasCrewed n first commands handled c
-crewed n first commands handled a b c o k g even r h = record {
+pub crewed : (n : Nucleus) (first commands : ℕ) (handled : List Handled) (a b c : Pass) → IsOpening a → IsKeeper 0 b → Goes (crew_commands first commands) a b → IsEven (layout_of n) (known b) → IsPassOf n b → IsRetired n b c → HasHandled message_value n crew_pairs handled b c → HasCrewed n first commands handled c
+crewed n first commands handled a b c o k g even is r h = record {
   of_nucleus = r.pass;
   within =
       let none : AreIn (caller_of a).actor (known a).mine = subst (AreIn (caller_of a).actor) (sym o.mine) (All-nil (λ (m : Placed PlaceNote). m.remarked.remark.before.actor ≡ (caller_of a).actor)) in
       subst (AreIn first_actor) (sym r.mine) (subst (λ actor. AreIn actor (known b).mine) o.actor (g.within none));
   ended = all-ended n b c k r;
-  before = known b;
+  before = b;
+  was = is;
   settled = record { seat = k.seat; mine = sym r.mine; seen = even.seen; even = even.even; more = h.sees };
   seat = r.seat ∙ k.seat;
   performed =
       ap (λ (mine : List (Placed PlaceNote)). commands_given (turns_in mine)) r.mine ∙ g.gave_is
       ∙ ap (λ (mine : List (Placed PlaceNote)). commands_given (turns_in mine) ++ crew_commands first commands) o.mine;
   handled_is =
-      subst (λ m. AreHandled message_value (layout_of n) (known c) (caller_of c).last m crew_pairs (known c).notes handled) k.made
-      (subst (λ (w : Seated). AreHandled message_value (layout_of n) (known c) w.last (known b).made crew_pairs (known c).notes handled) (sym r.caller)
-      (subst (λ (ns : List (Note PlaceNote)). AreHandled message_value (layout_of n) (known c) (caller_of b).last (known b).made crew_pairs ns handled) (sym (h.notes ∙ ap (λ (ns : List (Note PlaceNote)). ns ++ h.news) k.notes)) h.each));
+      subst (λ m. AreHandled message_value (layout_of n) (known c) (caller_of b).last m crew_pairs (known c).notes handled) k.made
+      (subst (λ (ns : List (Note PlaceNote)). AreHandled message_value (layout_of n) (known c) (caller_of b).last (known b).made crew_pairs ns handled) (sym (h.notes ∙ ap (λ (ns : List (Note PlaceNote)). ns ++ h.news) k.notes)) h.each);
 }
 
 pub still-keeper : (a b : Pass) → IsKeeper 0 a → IsSamePass (known a) (known b) → IsKeeper 0 b
 still-keeper a b k s = record { seat = s.0 ∙ k.seat; keeper = s.2 ∙ k.keeper; made = s.3 ∙ k.made; notes = s.1 ∙ k.notes }
 
-pub ok-crewed : (n : Nucleus) (first commands : ℕ) (r : Result (Vec Handled) Stopped) (a b c : Pass) → IsOpening a → IsSamePass (known a) (known b) → Goes (crew_commands first commands) a b → IsEven (layout_of n) (known b) → IsRetired n b c
+pub ok-crewed : (n : Nucleus) (first commands : ℕ) (r : Result (Vec Handled) Stopped) (a b c : Pass) → IsOpening a → IsSamePass (known a) (known b) → Goes (crew_commands first commands) a b → IsEven (layout_of n) (known b) → IsPassOf n b → IsRetired n b c
     → IfOk r (λ v. HasHandled message_value n crew_pairs v.items b c) → IfOk r (λ v. HasCrewed n first commands v.items c)
-ok-crewed n first commands (Ok v) a b c o s g even r h = crewed n first commands v.items a b c o (still-keeper a b o.keeper s) g even r h
-ok-crewed n first commands (Err e) a b c o s g even r h = tt
+ok-crewed n first commands (Ok v) a b c o s g even is r h = crewed n first commands v.items a b c o (still-keeper a b o.keeper s) g even is r h
+ok-crewed n first commands (Err e) a b c o s g even is r h = tt
 
 pub as-many : (value : Ui → ℕ → Message → ℕ) (l : Layout) (v : Knowledge PlaceNote) (clock seat : ℕ) (pairs : List (Ui × Ui)) (notes : List (Note PlaceNote)) (handled : List Handled) → AreHandled value l v clock seat pairs notes handled → length handled ≡ length pairs
 as-many value l v clock seat [] [] [] h = refl

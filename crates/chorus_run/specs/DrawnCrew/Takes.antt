@@ -3,8 +3,6 @@
 use Rattle.std.specs.Prelude.{ℕ, ◌≡◌, ◌+◌, true, List, [], ◌∷◌, length}
 use Rattle.law_network.specs.Calls.{first_actor}
 use Rattle.law_closing.specs.Actors.{AreIn}
-use Rattle.law_closing.specs.Places.{PlaceNote}
-use Rattle.chorus_turn.specs.declared.knowledge.Knowledge.{Knowledge}
 use Rattle.chorus_net.specs.declared.closed.Closed.{Closed}
 use Rattle.chorus_nucleus.specs.declared.nucleus.Nucleus.{Nucleus}
 use Rattle.chorus_nucleus.specs.declared.pass.Pass.{Pass}
@@ -37,9 +35,10 @@ pub record HasCrewed (n : Nucleus) (first commands : ℕ) (handled : List Handle
   pub performed : gave (known p) ≡ crew_commands first commands
   pub within : AreIn first_actor (known p).mine
   pub ended : (known p).made ≡ length (known p).notes + 1
-  pub before : Knowledge PlaceNote
-  pub settled : IsSettledAt (layout_of n) before (known p)
-  pub handled_is : AreHandled message_value (layout_of n) (known p) (caller_of p).last 1 crew_pairs (known p).notes
+  pub before : Pass
+  pub was : IsPassOf n before
+  pub settled : IsSettledAt (layout_of n) (known before) (known p)
+  pub handled_is : AreHandled message_value (layout_of n) (known p) (caller_of before).last 1 crew_pairs (known p).notes
       handled
 
 pub record IsTallied (t : Tally) (h : Handled) : Type 0 where

@@ -3,6 +3,8 @@ use Rattle.std.specs.Vec.{vec_len}
 use Rattle.std.specs.Global.{Global}
 use Rattle.chorus_perform.specs.declared.runner.Runner.{Runner}
 use Rattle.chorus_calls.specs.Callers.{Seated}
+use Rattle.chorus_nucleus.specs.SiteTurns.Turning.{HasSeenMore}
+use Rattle.chorus_nucleus.proofs.Behind.{more-itself}
 use Rattle.chorus_nucleus.specs.Passes.{caller_of}
 use Rattle.chorus_perform.specs.Runners.{AreEntered, AreEnding, HasRetired}
 use Rattle.chorus_perform.proofs.Leavings.{all-ended, none-ended, on-ok-so, performed-alone, performed-so, put-back}
@@ -39,3 +41,10 @@ returns-clause-performed g c =
 
 pub returns-in_default-clause-performed : goal.returns-in_default-clause-performed
 returns-in_default-clause-performed g c = performed-alone c.args.scenario.now c.args.pass.now c.requires.setup
+
+pub returns-clause-caller : goal.returns-clause-caller
+returns-clause-caller g c =
+    subst (λ w. HasSeenMore w (caller_of c.retire.new.pass)) c.enter.ensures.entered.caller c.retire.ensures.retired.caller
+
+pub returns-in_default-clause-caller : goal.returns-in_default-clause-caller
+returns-in_default-clause-caller g c = more-itself (caller_of c.args.pass.now)

@@ -12,8 +12,9 @@ use Rattle.chorus_run.proofs.drawn_crew.drawn.handle_drawn.Goals as goal
 pub print_counts-requires : goal.print_counts-requires
 print_counts-requires g c =
     let last = c.fill_and_handle-handled.new.pass in
+    let crewed = c.in-Ok-handled.ensures.ok in
     ap (λ (hs : List Handled). length hs) c.deref.ensures.value
-    ∙ as-many message_value (layout_of c.args.nucleus) (known last) (caller_of last).last 1 crew_pairs (known last).notes c.in-Ok-handled.handled.items c.in-Ok-handled.ensures.ok.handled_is
+    ∙ as-many message_value (layout_of c.args.nucleus) (known last) (caller_of crewed.before).last 1 crew_pairs (known last).notes c.in-Ok-handled.handled.items crewed.handled_is
 
 pub returns-in-Ok-handled : goal.returns-in-Ok-handled
 returns-in-Ok-handled g c =
