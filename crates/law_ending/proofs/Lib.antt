@@ -1,0 +1,10 @@
+mod Weights
+mod Working
+mod Told
+mod Delivering
+mod Keys
+mod Bounds
+mod Merging
+mod Lowering
+mod Rounds
+mod Examples
