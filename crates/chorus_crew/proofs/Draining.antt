@@ -2,25 +2,24 @@
 -- n is the nucleus, l its layout, q the port, a, b and c are the pass at three moments.
 use mathlib.Core.Logic.{dite}
 use native.Mathlib.Decide.{ℕ_discrete}
-use Rattle.std.proofs.Common.{◌≡◌, ◌≢◌, ℕ, ◌+◌, ◌%◌, ◌^◌, Option, Some, None, Ok, Err, List, [], ◌∷◌, ◌++◌, length, refl, sym, ap, ◌∙◌, subst, append_assoc, append-nil, arith, length-append}
+use Rattle.std.proofs.Common.{◌≡◌, ◌≢◌, ℕ, ◌+◌, Option, Some, None, Ok, Err, List, [], ◌∷◌, ◌++◌, length, refl, sym, ap, ◌∙◌, subst, append_assoc, append-nil, arith, length-append}
 use Rattle.std.proofs.lemmas.List.Elements.{All-nil, All-push, All-weaker}
 use Rattle.chorus_ui.specs.declared.ui.Ui.{Ui}
 use Rattle.chorus_ui.specs.declared.layout.Layout.{Layout}
-use Rattle.chorus_entry.specs.declared.message.Message.{Message}
 use Rattle.law_replies.specs.Taking.{taken_acts}
 use Rattle.chorus_turn.specs.declared.knowledge.Knowledge.{Knowledge}
 use Rattle.law_closing.specs.Places.{PlaceNote}
 use Rattle.chorus_nucleus.specs.declared.fault.CallFault.{CallFault}
 use Rattle.chorus_nucleus.specs.declared.nucleus.Nucleus.{Nucleus}
 use Rattle.chorus_nucleus.specs.declared.pass.Pass.{Pass}
-use Rattle.chorus_nucleus.specs.Passes.{layout_of, known, worn_by, IsPassOf}
+use Rattle.chorus_nucleus.specs.Passes.{layout_of, known, caller_of, worn_by, IsPassOf}
 use Rattle.chorus_nucleus.specs.Calls.{worn_after}
 use Rattle.chorus_nucleus.specs.declared.taken_message.TakenMessage.{TakenMessage}
 use Rattle.chorus_nucleus.specs.Taking.{Appends, HasOrigin, SeesMore, KeepsPass, TakesOn, IsTake, reply_with}
-use Rattle.chorus_nucleus.proofs.TakeTurns.{worn-ok, worn-err, takes-nothing}
+use Rattle.chorus_nucleus.proofs.Behind.{more-itself}
+use Rattle.chorus_nucleus.proofs.TakeTurns.{worn-ok, takes-nothing}
 use Rattle.chorus_nucleus.proofs.Trying.{appends-none, appends-then, appends-still, origin-later, keeps-none, keeps-then, takes-then}
-use Rattle.chorus_crew.specs.declared.job.Tally.{Tally}
-use Rattle.chorus_crew.specs.Handling.{took_acts, AreGiven, first_position, worth, Counts}
+use Rattle.chorus_crew.specs.Handling.{Way, after_all, took_acts, AreGiven, first_position, Folds}
 use Rattle.chorus_crew.specs.Jobs.{IsWork}
 
 pub took-append : (q : Ui) (xs ys : List TakenMessage) → took_acts q (xs ++ ys) ≡ took_acts q xs ++ took_acts q ys
@@ -28,9 +27,9 @@ took-append q [] ys = refl
 took-append q (x ∷ xs) ys = let a = taken_acts q (reply_with x) in
     ap (λ zs. a ++ zs) (took-append q xs ys) ∙ sym (append_assoc a (took_acts q xs) (took_acts q ys))
 
-worth-append : (value : Ui → ℕ → Message → ℕ) (q : Ui) (xs ys : List TakenMessage) → worth value q (xs ++ ys) ≡ worth value q xs + worth value q ys
-worth-append value q [] ys = omega arith
-worth-append value q (x ∷ xs) ys = let more = worth-append value q xs ys in omega arith
+after-append : {S : Type 0} (way : Way S) (q : Ui) (ts : List TakenMessage) (t : TakenMessage) (s : S) → after_all way q (ts ++ t ∷ []) s ≡ way.after q t (after_all way q ts s)
+after-append way q [] t s = refl
+after-append way q (x ∷ ts) t s = after-append way q ts t (way.after q x s)
 
 pub given-later : (l : Layout) (q : Ui) (ts : List TakenMessage) (v u : Knowledge PlaceNote) → SeesMore v u → AreGiven l q ts v → AreGiven l q ts u
 given-later l q ts v u more given =
@@ -42,31 +41,31 @@ first-more [] t from count f n = ((λ _. refl), λ some. absurd (some n))
 first-more (s ∷ ts) t from count f n = ((λ none. absurd (omega arith)), λ _. sym f)
 
 -- what was done so far
-pub record Drained (value : Ui → ℕ → Message → ℕ) (n : Nucleus) (q : Ui) (from count total : ℕ) (old new : Pass) : Type 0 where
+pub record Drained {S : Type 0} (way : Way S) (n : Nucleus) (q : Ui) (from count : ℕ) (state : S) (old new : Pass) : Type 0 where
   pub keeps : KeepsPass n old new
   pub goes : TakesOn n q old new
   pub took : List TakenMessage
   pub given : AreGiven (layout_of n) q took (known new)
   pub appends : Appends (took_acts q took) (known old) (known new)
-  pub counts : Counts value q took from count total
+  pub folds : Folds way q took from count state
   pub worn : worn_by new ≡ worn_by old
 
-pub drained-none : (value : Ui → ℕ → Message → ℕ) (n : Nucleus) (q : Ui) (a : Pass) → IsPassOf n a → Drained value n q 0 0 0 a a
-drained-none value n q a is = record {
+pub drained-none : {S : Type 0} (way : Way S) (n : Nucleus) (q : Ui) (a : Pass) (state : S) → IsPassOf n a → state ≡ way.begun q → Drained way n q 0 0 state a a
+drained-none way n q a state is begun = record {
   keeps = keeps-none n a is;
-  goes = takes-nothing n q a a refl refl;
+  goes = takes-nothing n q a a refl (more-itself (caller_of a));
   took = [];
   given = All-nil (λ (t : TakenMessage). HasOrigin (layout_of n) q (reply_with t) (known a));
   appends = appends-none (known a) (known a) refl;
-  counts = record { first = refl; number = refl; sum = refl };
+  folds = record { first = refl; number = refl; state_is = begun };
   worn = refl;
 }
 
-module _ (value : Ui → ℕ → Message → ℕ) (n : Nucleus) (q : Ui) (from count total : ℕ) (a b c : Pass) (d : Drained value n q from count total a b) where
-  pub drained-more : (t : TakenMessage) (first next sum : ℕ) → IsTake n q (Ok (Some t)) b c → (count ≡ 0 → first ≡ t.position) → (count ≢ 0 → first ≡ from) → next ≡ count + 1
-      → sum ≡ (total + value q t.position t.message) % 2 ^ 64 → Drained value n q first next sum a c
-  drained-more t first next sum h zero-first some-first next-is sum-is =
-      let f = first-more d.took t from count d.counts.first d.counts.number in
+module _ {S : Type 0} (way : Way S) (n : Nucleus) (q : Ui) (from count : ℕ) (state : S) (a b c : Pass) (d : Drained way n q from count state a b) where
+  pub drained-more : (t : TakenMessage) (first next : ℕ) (then : S) → IsTake n q (Ok (Some t)) b c → (count ≡ 0 → first ≡ t.position) → (count ≢ 0 → first ≡ from) → next ≡ count + 1
+      → then ≡ way.after q t state → Drained way n q first next then a c
+  drained-more t first next then h zero-first some-first next-is then-is =
+      let f = first-more d.took t from count d.folds.first d.folds.number in
       record {
         keeps = keeps-then n a b c d.keeps h.keeps;
         goes = takes-then n q a b c d.keeps.actor d.goes h.goes;
@@ -74,39 +73,42 @@ module _ (value : Ui → ℕ → Message → ℕ) (n : Nucleus) (q : Ui) (from c
         given = All-push (λ (z : TakenMessage). HasOrigin (layout_of n) q (reply_with z) (known c)) d.took t (given-later (layout_of n) q d.took (known b) (known c) h.keeps.sees d.given) h.answer.origin;
         appends = subst (λ zs. Appends zs (known a) (known c)) (sym (took-append q d.took (t ∷ []) ∙ ap (λ zs. took_acts q d.took ++ zs) (append-nil (taken_acts q (reply_with t)))))
             (appends-then (took_acts q d.took) (taken_acts q (reply_with t)) (known a) (known b) (known c) d.appends h.answer.appends);
-        counts = record {
+        folds = record {
           first = dite (ℕ_discrete count 0) (λ e. zero-first e ∙ sym (f.0 e)) (λ k. some-first k ∙ sym (f.1 k));
-          number = omega (arith, next-is, d.counts.number, length-append d.took (t ∷ []));
-          sum = let w = worth-append value q d.took (t ∷ []) in let s = d.counts.sum in sum-is ∙ omega arith;
+          number = omega (arith, next-is, d.folds.number, length-append d.took (t ∷ []));
+          state_is = then-is ∙ ap (way.after q t) d.folds.state_is ∙ sym (after-append way q d.took t (way.begun q));
         };
         worn = h.worn ∙ worn-ok (worn_by b) (Some t) ∙ d.worn;
       }
 
-  pub drains : IsTake n q (Ok None) b c → IsWork value n q (Ok record { from = from; count = count; total = total }) a c
+  pub drains : IsTake n q (Ok None) b c → IsWork way n q record { from = from; count = count; state = state; stopped = None } a c
   drains h = record {
     keeps = keeps-then n a b c d.keeps h.keeps;
     goes = takes-then n q a b c d.keeps.actor d.goes h.goes;
     work = record {
       took = d.took;
       given = given-later (layout_of n) q d.took (known b) (known c) h.keeps.sees d.given;
-      last = h.answer.act;
-      missed = h.answer.miss;
+      rest = h.answer.act ∷ [];
+      ends = (h.answer.act, h.answer.miss, refl);
       appends = appends-then (took_acts q d.took) (h.answer.act ∷ []) (known a) (known b) (known c) d.appends h.answer.appends;
-      counts = d.counts;
+      folds = d.folds;
     };
-    worn = h.worn ∙ worn-ok {T = Option TakenMessage} (worn_by b) None ∙ d.worn ∙ sym (worn-ok {T = Tally} (worn_by a) record { from = from; count = count; total = total });
+    worn = h.worn ∙ worn-ok {T = Option TakenMessage} (worn_by b) None ∙ d.worn;
   }
 
-  pub handles : (f : CallFault) → IsTake n q (Err f) b c → IsWork value n q (Err f) a c
-  handles f h = record {
+  pub stops : (f : CallFault) → IsTake n q (Err f) b c → IsWork way n q record { from = from; count = count; state = state; stopped = Some f } a c
+  stops f h = record {
     keeps = keeps-then n a b c d.keeps h.keeps;
     goes = takes-then n q a b c d.keeps.actor d.goes h.goes;
     work = record {
       took = d.took;
       given = given-later (layout_of n) q d.took (known b) (known c) h.keeps.sees d.given;
-      appends = appends-still (took_acts q d.took) (known a) (known b) (known c) d.appends h.fault.mine;
+      rest = [];
+      ends = refl;
+      appends = subst (λ zs. Appends zs (known a) (known c)) (sym (append-nil (took_acts q d.took))) (appends-still (took_acts q d.took) (known a) (known b) (known c) d.appends h.fault.mine);
+      folds = d.folds;
     };
-    worn = h.worn ∙ ap (λ o. worn_after {T = Option TakenMessage} o (Err f)) d.worn ∙ worn-err (Option TakenMessage) Tally (worn_by a) f;
+    worn = h.worn ∙ ap (λ o. worn_after {T = Option TakenMessage} o (Err f)) d.worn;
   }
 
-pub ruleset draining = (drained-none, drains, handles)
+pub ruleset draining = (drained-none, drains, stops)

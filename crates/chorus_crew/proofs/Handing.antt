@@ -1,6 +1,6 @@
 -- What a crew hands on: the passes of the jobs, and what they gave.
 -- n is the nucleus, l its layout, a, b and c are the caller's pass before the call, with all passes drawn, and at the end.
-use Rattle.std.proofs.Common.{◌≡◌, ◌≤◌, ℕ, zero, suc, ◌+◌, Bool, true, Some, Result, Ok, Err, IfOk, List, [], ◌∷◌, ◌++◌, map, length, refl, sym, ap, ◌∙◌, subst, arith, append-nil, slice_get}
+use Rattle.std.proofs.Common.{◌≡◌, ◌≤◌, ℕ, zero, suc, ◌+◌, Bool, true, Option, Some, None, is_none, Result, Ok, Err, IfOk, IfErr, OnOk, inr, List, [], ◌∷◌, ◌++◌, map, length, reverse, refl, sym, ap, ◌∙◌, subst, arith, append-nil, slice_get}
 use Rattle.std.specs.List.{All}
 use Rattle.std.specs.Global.{Vec}
 use Rattle.std.proofs.lemmas.Bool.{and_parts}
@@ -10,7 +10,6 @@ use Rattle.chorus_ui.specs.declared.layout.Layout.{Layout}
 use Rattle.chorus_ui.specs.NameKind.{is_port}
 use Rattle.chorus_entry.specs.declared.act.Act.{Act}
 use Rattle.chorus_entry.specs.declared.command.Command.{Command}
-use Rattle.chorus_entry.specs.declared.message.Message.{Message}
 use Rattle.chorus_entry.specs.Places.{place_for}
 use Rattle.law_history.specs.declared.turns.Input.{Input}
 use Rattle.law_history.specs.Journals.{PlaceTurn}
@@ -20,6 +19,8 @@ use Rattle.chorus_turn.specs.declared.knowledge.Placed.{Placed}
 use Rattle.chorus_turn.specs.Lists.{somes}
 use Rattle.chorus_turn.specs.Knowing.{note_of}
 use Rattle.law_closing.specs.Places.{PlaceNote}
+use Rattle.chorus_nucleus.specs.SiteTurns.Turning.{HasSeenMore}
+use Rattle.chorus_nucleus.proofs.Behind.{more-itself}
 use Rattle.chorus_nucleus.specs.declared.fault.CallFault.{CallFault}
 use Rattle.chorus_nucleus.specs.declared.nucleus.Nucleus.{Nucleus}
 use Rattle.chorus_nucleus.specs.declared.pass.Pass.{Pass}
@@ -27,16 +28,17 @@ use Rattle.chorus_nucleus.specs.Passes.{layout_of, known, caller_of, IsPassOf}
 use Rattle.chorus_nucleus.specs.Taking.{acts_made, Appends, IsByTakes, IsMiss, SeesMore}
 use Rattle.chorus_nucleus.proofs.Trying.{sees-then}
 use Rattle.chorus_nucleus.proofs.TakeTurns.{sees-same}
-use Rattle.chorus_crew.specs.declared.fault.CrewFault.{CrewFault}
-use Rattle.chorus_crew.specs.declared.handler.Handled.{Handled}
+use Rattle.chorus_crew.specs.declared.fault.Unfinished.{Unfinished}
+use Rattle.chorus_crew.specs.declared.folding.Folded.{Folded}
 use Rattle.chorus_crew.specs.declared.job.Done.{Done}
 use Rattle.chorus_crew.specs.declared.job.Job.{Job}
 use Rattle.chorus_crew.specs.declared.job.Tally.{Tally}
-use Rattle.chorus_crew.specs.Handling.{took_acts, Drains}
-use Rattle.chorus_crew.specs.Jobs.{IsPlain, IsJobOf, IsDoneOf, AreDoneOf, IsNumbered, IsEntered, AreEntered, BeginAt, HasDrawn, Worked}
-use Rattle.chorus_crew.specs.Retiring.{TakesIn, TookAlone, IsRetired, IsFullSlot, passes_of, handled_of, handled_with, is_done, is_ok}
-use Rattle.chorus_crew.specs.Crews.{IsHandled, AreHandled, HasHandled}
+use Rattle.chorus_crew.specs.Handling.{Way, took_acts, EndsBy, Drains}
+use Rattle.chorus_crew.specs.Jobs.{IsPlain, IsJobOf, IsDoneOf, AreDoneOf, IsNumbered, IsEntered, AreEntered, BeginAt, HasDrawn}
+use Rattle.chorus_crew.specs.Retiring.{TakesIn, TookAlone, IsRetired, HasTakenNothing, IsFullSlot, passes_of, folded_of, folded_with, is_done}
+use Rattle.chorus_crew.specs.Crews.{IsFolded, AreEach, HasFolded, HasFoldedAll, HasStopped}
 use Rattle.chorus_crew.proofs.Draining.{given-later}
+use Rattle.chorus_crew.proofs.Ended.{all-reverse}
 
 abbrev notes_of : List Pass → List (Note PlaceNote)
 notes_of ps = map (λ (p : Pass). note_of (known p)) ps
@@ -79,56 +81,52 @@ entered-more n index seat at next (q ∷ pairs) p (x ∷ jobs) j e a b here =
 
 -- Jobs that are done: their passes end in the caller's.
 
-done-plain : (value : Ui → ℕ → Message → ℕ) (n : Nucleus) (j : Job) (d : Done) → IsPlain n j.pass → IsDoneOf value n j d → IsPlain n d.pass
-done-plain value n j d p is = record { of_nucleus = is.work.keeps.pass; keeper = is.work.keeps.standing.2 ∙ p.keeper; notes = is.work.keeps.standing.1 ∙ p.notes }
+done-plain : {S : Type 0} (way : Way S) (n : Nucleus) (j : Job) (d : Done S) → IsPlain n j.pass → IsDoneOf way n j d → IsPlain n d.pass
+done-plain way n j d p is = record { of_nucleus = is.work.keeps.pass; keeper = is.work.keeps.standing.2 ∙ p.keeper; notes = is.work.keeps.standing.1 ∙ p.notes }
 
-pub done-slots : (value : Ui → ℕ → Message → ℕ) (n : Nucleus) (index seat : ℕ) (pairs : List (Ui × Ui)) (jobs : List Job) (dones : List Done) → AreEntered n index seat pairs jobs → AreDoneOf value n jobs dones
+pub done-slots : {S : Type 0} (way : Way S) (n : Nucleus) (index seat : ℕ) (pairs : List (Ui × Ui)) (jobs : List Job) (dones : List (Done S)) → AreEntered n index seat pairs jobs → AreDoneOf way n jobs dones
     → All (IsFullSlot n) (somes dones)
-done-slots value n index seat [] [] [] e d = All-nil (IsFullSlot n)
-done-slots value n index seat [] [] (x ∷ dones) e d = absurd d
-done-slots value n index seat [] (j ∷ jobs) dones e d = absurd e
-done-slots value n index seat (p ∷ pairs) [] dones e d = absurd e
-done-slots value n index seat (p ∷ pairs) (j ∷ jobs) [] e d = absurd d
-done-slots value n index seat (p ∷ pairs) (j ∷ jobs) (x ∷ dones) e d =
-    All-cons (IsFullSlot n) (Some x) (somes dones) (x, refl, done-plain value n j x e.0.plain d.0) (done-slots value n (index + 1) (seat + 1) pairs jobs dones e.1 d.1)
+done-slots way n index seat [] [] [] e d = All-nil (IsFullSlot n)
+done-slots way n index seat [] [] (x ∷ dones) e d = absurd d
+done-slots way n index seat [] (j ∷ jobs) dones e d = absurd e
+done-slots way n index seat (p ∷ pairs) [] dones e d = absurd e
+done-slots way n index seat (p ∷ pairs) (j ∷ jobs) [] e d = absurd d
+done-slots way n index seat (p ∷ pairs) (j ∷ jobs) (x ∷ dones) e d =
+    All-cons (IsFullSlot n) (Some x) (somes dones) (x, refl, done-plain way n j x e.0.plain d.0) (done-slots way n (index + 1) (seat + 1) pairs jobs dones e.1 d.1)
 
-pub done-count : (value : Ui → ℕ → Message → ℕ) (n : Nucleus) (jobs : List Job) (dones : List Done) → AreDoneOf value n jobs dones → length (somes dones) ≡ length jobs
-done-count value n [] [] d = refl
-done-count value n [] (x ∷ dones) d = absurd d
-done-count value n (j ∷ jobs) [] d = absurd d
-done-count value n (j ∷ jobs) (x ∷ dones) d = ap suc (done-count value n jobs dones d.1)
+pub done-count : {S : Type 0} (way : Way S) (n : Nucleus) (jobs : List Job) (dones : List (Done S)) → AreDoneOf way n jobs dones → length (somes dones) ≡ length jobs
+done-count way n [] [] d = refl
+done-count way n [] (x ∷ dones) d = absurd d
+done-count way n (j ∷ jobs) [] d = absurd d
+done-count way n (j ∷ jobs) (x ∷ dones) d = ap suc (done-count way n jobs dones d.1)
 
 made-acts : (acts : List Act) (v u : Knowledge PlaceNote) → v.mine ≡ [] → Appends acts v u → acts_made u.mine ≡ acts
 made-acts acts v u none a = ap acts_made (a.grown ∙ ap (λ zs. zs ++ a.news) none) ∙ a.acts_are
 
-worked-alone : (value : Ui → ℕ → Message → ℕ) (l : Layout) (q : Ui) (r : Result Tally CallFault) (v u : Knowledge PlaceNote) → v.mine ≡ [] → Worked value l q r v u → TookAlone u.mine
-worked-alone value l q (Ok t) v u none w = record {
+worked-alone : {S : Type 0} (way : Way S) (l : Layout) (q : Ui) (from count : ℕ) (state : S) (stopped : Option CallFault) (v u : Knowledge PlaceNote) → v.mine ≡ [] → Drains way l q from count state stopped v u → TookAlone u.mine
+worked-alone way l q from count state stopped v u none w = record {
   port = q;
   took = w.took;
-  rest = w.last ∷ [];
-  vain = All-cons (IsMiss q) w.last [] w.missed (All-nil (IsMiss q));
-  few = omega arith;
-  acts = made-acts (took_acts q w.took ++ w.last ∷ []) v u none w.appends;
+  rest = w.rest;
+  vain = (by stopped w.rest w.ends).0;
+  few = (by stopped w.rest w.ends).1;
+  acts = made-acts (took_acts q w.took ++ w.rest) v u none w.appends;
 }
-worked-alone value l q (Err f) v u none w = record {
-  port = q;
-  took = w.took;
-  rest = [];
-  vain = All-nil (IsMiss q);
-  few = omega arith;
-  acts = made-acts (took_acts q w.took) v u none w.appends ∙ sym (append-nil (took_acts q w.took));
-}
+  where
+    by : (o : Option CallFault) (acts : List Act) → EndsBy q o acts → All (IsMiss q) acts × (length acts ≤ 1)
+    by None acts e = subst (λ zs. All (IsMiss q) zs × (length zs ≤ 1)) (sym e.2) (All-cons (IsMiss q) e.0 [] e.1 (All-nil (IsMiss q)), omega arith)
+    by (Some f) acts e = subst (λ zs. All (IsMiss q) zs × (length zs ≤ 1)) (sym e) (All-nil (IsMiss q), omega arith)
 
-pub done-alone : (value : Ui → ℕ → Message → ℕ) (n : Nucleus) (index seat : ℕ) (pairs : List (Ui × Ui)) (jobs : List Job) (dones : List Done) → AreEntered n index seat pairs jobs → AreDoneOf value n jobs dones
+pub done-alone : {S : Type 0} (way : Way S) (n : Nucleus) (index seat : ℕ) (pairs : List (Ui × Ui)) (jobs : List Job) (dones : List (Done S)) → AreEntered n index seat pairs jobs → AreDoneOf way n jobs dones
     → All (λ (m : Note PlaceNote). TookAlone m.mine) (notes_of (passes_of dones)) × (length (notes_of (passes_of dones)) ≡ length pairs)
-done-alone value n index seat [] [] [] e d = (All-nil (λ (m : Note PlaceNote). TookAlone m.mine), refl)
-done-alone value n index seat [] [] (x ∷ dones) e d = absurd d
-done-alone value n index seat [] (j ∷ jobs) dones e d = absurd e
-done-alone value n index seat (p ∷ pairs) [] dones e d = absurd e
-done-alone value n index seat (p ∷ pairs) (j ∷ jobs) [] e d = absurd d
-done-alone value n index seat (p ∷ pairs) (j ∷ jobs) (x ∷ dones) e d =
-    let more = done-alone value n (index + 1) (seat + 1) pairs jobs dones e.1 d.1 in
-    (All-cons (λ (m : Note PlaceNote). TookAlone m.mine) (note_of (known x.pass)) (notes_of (passes_of dones)) (worked-alone value (layout_of n) j.port x.result (known j.pass) (known x.pass) e.0.nothing d.0.work.work) more.0, ap suc more.1)
+done-alone way n index seat [] [] [] e d = (All-nil (λ (m : Note PlaceNote). TookAlone m.mine), refl)
+done-alone way n index seat [] [] (x ∷ dones) e d = absurd d
+done-alone way n index seat [] (j ∷ jobs) dones e d = absurd e
+done-alone way n index seat (p ∷ pairs) [] dones e d = absurd e
+done-alone way n index seat (p ∷ pairs) (j ∷ jobs) [] e d = absurd d
+done-alone way n index seat (p ∷ pairs) (j ∷ jobs) (x ∷ dones) e d =
+    let more = done-alone way n (index + 1) (seat + 1) pairs jobs dones e.1 d.1 in
+    (All-cons (λ (m : Note PlaceNote). TookAlone m.mine) (note_of (known x.pass)) (notes_of (passes_of dones)) (worked-alone way (layout_of n) j.port x.tally.from x.tally.count x.tally.state x.tally.stopped (known j.pass) (known x.pass) e.0.nothing d.0.work.work) more.0, ap suc more.1)
 
 fresh-alone : (n : Nucleus) (index seat : ℕ) (p : Ui × Ui) (j : Job) → IsEntered n index seat p j → TookAlone (known j.pass).mine
 fresh-alone n index seat p j e = record { port = p.0; took = []; rest = []; vain = All-nil (IsMiss p.0); few = omega arith; acts = ap acts_made e.nothing }
@@ -157,7 +155,7 @@ retired n count a b c ended keeper d t len alone = record {
   keeper = t.keeper ∙ ap (λ (v : Knowledge PlaceNote). v.keeper) d.knows ∙ keeper;
   seat = t.seat ∙ ap (λ (v : Knowledge PlaceNote). v.seat) d.knows;
   mine = t.mine ∙ ap (λ (v : Knowledge PlaceNote). v.mine) d.knows;
-  caller = t.caller ∙ d.caller;
+  caller = subst (λ w. HasSeenMore w (caller_of c)) d.caller t.caller;
   news = notes_of ended;
   notes = t.notes ∙ ap (λ zs. zs ++ notes_of ended) (ap (λ (v : Knowledge PlaceNote). v.notes) d.knows);
   drawn = let m = t.made in let k = ap (λ (v : Knowledge PlaceNote). v.made) d.knows in omega (arith, m, k, len);
@@ -171,7 +169,7 @@ retired-none n a is keeper = record {
   keeper = keeper;
   seat = refl;
   mine = refl;
-  caller = refl;
+  caller = more-itself (caller_of a);
   news = [];
   notes = sym (append-nil (known a).notes);
   drawn = let e : (known a).made ≡ (known a).made + 0 = omega arith in e;
@@ -180,16 +178,16 @@ retired-none n a is keeper = record {
 
 -- What the jobs gave.
 
-handled-one : (value : Ui → ℕ → Message → ℕ) (l : Layout) (q port : Ui) (t : Tally) (v u w : Knowledge PlaceNote) → port ≡ q → v.mine ≡ [] → SeesMore u w → Drains value l q t.from t.count t.total v u
-    → IsHandled value l w q u.mine record { port = port; from = t.from; count = t.count; total = t.total }
-handled-one value l q port t v u w same none more d = record {
+folded-one : {S : Type 0} (way : Way S) (l : Layout) (q port : Ui) (t : Tally S) (v u w : Knowledge PlaceNote) → port ≡ q → v.mine ≡ [] → SeesMore u w → Drains way l q t.from t.count t.state t.stopped v u
+    → IsFolded way l w q u.mine (folded_with port t)
+folded-one way l q port t v u w same none more d = record {
   port = same;
   took = d.took;
   given = given-later l q d.took u w more d.given;
-  last = d.last;
-  missed = d.missed;
-  acts = made-acts (took_acts q d.took ++ d.last ∷ []) v u none d.appends;
-  counts = d.counts;
+  rest = d.rest;
+  ends = d.ends;
+  acts = made-acts (took_acts q d.took ++ d.rest) v u none d.appends;
+  folds = d.folds;
 }
 
 -- a pass that made nothing
@@ -201,51 +199,90 @@ by-none l q actor clock mine none = subst (IsByTakes l q actor clock) (sym none)
   first = λ m rest e. absurd (cc);
 }
 
-done-takes : (value : Ui → ℕ → Message → ℕ) (n : Nucleus) (clock index seat : ℕ) (p : Ui × Ui) (j : Job) (d : Done) → IsEntered n index seat p j → clock ≤ (caller_of j.pass).last → IsDoneOf value n j d
+done-takes : {S : Type 0} (way : Way S) (n : Nucleus) (clock index seat : ℕ) (p : Ui × Ui) (j : Job) (d : Done S) → IsEntered n index seat p j → clock ≤ (caller_of j.pass).last → IsDoneOf way n j d
     → IsByTakes (layout_of n) p.0 p.1 clock (known d.pass).mine
-done-takes value n clock index seat p j d e le is =
+done-takes way n clock index seat p j d e le is =
     let l = layout_of n in
     let made = is.work.goes.takes clock le (by-none l j.port (caller_of j.pass).actor clock (known j.pass).mine e.nothing) in
     subst (λ a. IsByTakes l p.0 a clock (known d.pass).mine) e.of_actor (subst (λ q. IsByTakes l q (caller_of j.pass).actor clock (known d.pass).mine) e.of_port made)
 
-module _ (value : Ui → ℕ → Message → ℕ) (n : Nucleus) (w : Knowledge PlaceNote) (clock : ℕ) where
-  ended-well : (q port : Ui) (r : Result Tally CallFault) (v u : Knowledge PlaceNote) → is_ok r ≡ true → port ≡ q → v.mine ≡ [] → SeesMore u w → Worked value (layout_of n) q r v u
-      → (h : Handled) × (handled_with port r ≡ h ∷ []) × IsHandled value (layout_of n) w q u.mine h
-  ended-well q port (Ok t) v u ok same none more d = (record { port = port; from = t.from; count = t.count; total = t.total }, refl, handled-one value (layout_of n) q port t v u w same none more d)
-  ended-well q port (Err f) v u ok same none more d = absurd (cc)
-
-  pub all-handled : (index seat : ℕ) (pairs : List (Ui × Ui)) (jobs : List Job) (dones : List Done) → AreEntered n index seat pairs jobs → BeginAt clock jobs → AreDoneOf value n jobs dones → is_done dones ≡ true
-      → All (λ (p : Pass). SeesMore (known p) w) (passes_of dones) → AreHandled value (layout_of n) w clock seat pairs (notes_of (passes_of dones)) (handled_of dones)
-  all-handled index seat [] [] [] e b d ok more = tt
-  all-handled index seat [] [] (x ∷ dones) e b d ok more = absurd d
-  all-handled index seat [] (j ∷ jobs) dones e b d ok more = absurd e
-  all-handled index seat (p ∷ pairs) [] dones e b d ok more = absurd e
-  all-handled index seat (p ∷ pairs) (j ∷ jobs) [] e b d ok more = absurd d
-  all-handled index seat (p ∷ pairs) (j ∷ jobs) (x ∷ dones) e b d ok more =
-      let both = and_parts (is_ok x.result) (is_done dones) ok in
+module _ {S : Type 0} (way : Way S) (n : Nucleus) (w : Knowledge PlaceNote) (clock : ℕ) where
+  pub all-folded : (index seat : ℕ) (pairs : List (Ui × Ui)) (jobs : List Job) (dones : List (Done S)) → AreEntered n index seat pairs jobs → BeginAt clock jobs → AreDoneOf way n jobs dones
+      → All (λ (p : Pass). SeesMore (known p) w) (passes_of dones) → AreEach (IsFolded way (layout_of n) w) (layout_of n) clock seat pairs (notes_of (passes_of dones)) (folded_of dones)
+  all-folded index seat [] [] [] e b d more = tt
+  all-folded index seat [] [] (x ∷ dones) e b d more = absurd d
+  all-folded index seat [] (j ∷ jobs) dones e b d more = absurd e
+  all-folded index seat (p ∷ pairs) [] dones e b d more = absurd e
+  all-folded index seat (p ∷ pairs) (j ∷ jobs) [] e b d more = absurd d
+  all-folded index seat (p ∷ pairs) (j ∷ jobs) (x ∷ dones) e b d more =
       let sees = All-head (λ (z : Pass). SeesMore (known z) w) x.pass (passes_of dones) more in
-      let one = ended-well j.port x.port x.result (known j.pass) (known x.pass) both.0 d.0.port e.0.nothing sees d.0.work.work in
-      let rest = all-handled (index + 1) (seat + 1) pairs jobs dones e.1 (All-tail (λ (z : Job). clock ≤ (caller_of z.pass).last) j jobs b) d.1 both.1 (All-tail (λ (z : Pass). SeesMore (known z) w) x.pass (passes_of dones) more) in
-      subst (AreHandled value (layout_of n) w clock seat (p ∷ pairs) (notes_of (passes_of (x ∷ dones)))) (sym (ap (λ zs. zs ++ handled_of dones) one.1))
-      (d.0.work.keeps.standing.0 ∙ e.0.seat_is, done-takes value n clock index seat p j x e.0 (All-head (λ (z : Job). clock ≤ (caller_of z.pass).last) j jobs b) d.0, subst (λ q. IsHandled value (layout_of n) w q (known x.pass).mine one.0) e.0.of_port one.2, rest)
+      let one = folded-one way (layout_of n) j.port x.port x.tally (known j.pass) (known x.pass) w d.0.port e.0.nothing sees d.0.work.work in
+      let rest = all-folded (index + 1) (seat + 1) pairs jobs dones e.1 (All-tail (λ (z : Job). clock ≤ (caller_of z.pass).last) j jobs b) d.1 (All-tail (λ (z : Pass). SeesMore (known z) w) x.pass (passes_of dones) more) in
+      (d.0.work.keeps.standing.0 ∙ e.0.seat_is, done-takes way n clock index seat p j x e.0 (All-head (λ (z : Job). clock ≤ (caller_of z.pass).last) j jobs b) d.0, subst (λ q. IsFolded way (layout_of n) w q (known x.pass).mine (folded_with x.port x.tally)) e.0.of_port one, rest)
+
+is-none : (o : Option CallFault) → is_none o ≡ true → o ≡ None
+is-none None e = refl
+is-none (Some f) e = absurd (cc)
+
+all-whole : {S : Type 0} (dones : List (Done S)) → is_done dones ≡ true → All (λ (f : Folded S). f.stopped ≡ None) (folded_of dones)
+all-whole {S} [] all = All-nil (λ (f : Folded S). f.stopped ≡ None)
+all-whole {S} (x ∷ dones) all =
+    let both = and_parts (is_none x.tally.stopped) (is_done dones) all in
+    All-cons (λ (f : Folded S). f.stopped ≡ None) (folded_with x.port x.tally) (folded_of dones) (is-none x.tally.stopped both.0) (all-whole dones both.1)
 
 -- All that was drawn ended in the caller's pass.
 
-pub all-retired : (value : Ui → ℕ → Message → ℕ) (n : Nucleus) (pairs : List (Ui × Ui)) (jobs : List Job) (dones : List Done) (a b c : Pass) → (known a).keeper ≡ true → HasDrawn n (length pairs) a b
-    → AreEntered n 0 (known a).made pairs jobs → AreDoneOf value n jobs dones → TakesIn n b c (passes_of dones) → IsRetired n a c
-all-retired value n pairs jobs dones a b c keeper drawn e d t =
-    let k = done-alone value n 0 (known a).made pairs jobs dones e d in retired n (length pairs) a b c (passes_of dones) keeper drawn t k.1 k.0
+pub all-retired : {S : Type 0} (way : Way S) (n : Nucleus) (pairs : List (Ui × Ui)) (jobs : List Job) (dones : List (Done S)) (a b c : Pass) → (known a).keeper ≡ true → HasDrawn n (length pairs) a b
+    → AreEntered n 0 (known a).made pairs jobs → AreDoneOf way n jobs dones → TakesIn n b c (passes_of dones) → IsRetired n a c
+all-retired way n pairs jobs dones a b c keeper drawn e d t =
+    let k = done-alone way n 0 (known a).made pairs jobs dones e d in retired n (length pairs) a b c (passes_of dones) keeper drawn t k.1 k.0
 
-pub has-handled : (value : Ui → ℕ → Message → ℕ) (n : Nucleus) (pairs : List (Ui × Ui)) (jobs : List Job) (dones : List Done) (a b c : Pass) (handled : List Handled) → HasDrawn n (length pairs) a b
-    → AreEntered n 0 (known a).made pairs jobs → BeginAt (caller_of a).last jobs → AreDoneOf value n jobs dones → TakesIn n b c (passes_of dones) → is_done dones ≡ true → handled ≡ handled_of dones → HasHandled value n pairs handled a c
-has-handled value n pairs jobs dones a b c handled drawn e later d t all is = record {
+pub has-folded : {S : Type 0} (way : Way S) (n : Nucleus) (pairs : List (Ui × Ui)) (jobs : List Job) (dones : List (Done S)) (a b c : Pass) (folded : List (Folded S)) → HasDrawn n (length pairs) a b
+    → AreEntered n 0 (known a).made pairs jobs → BeginAt (caller_of a).last jobs → AreDoneOf way n jobs dones → TakesIn n b c (passes_of dones) → folded ≡ folded_of dones → HasFolded way n pairs folded a c
+has-folded way n pairs jobs dones a b c folded drawn e later d t is = record {
   news = notes_of (passes_of dones);
   notes = t.notes ∙ ap (λ zs. zs ++ notes_of (passes_of dones)) (ap (λ (v : Knowledge PlaceNote). v.notes) drawn.knows);
-  each = subst (AreHandled value (layout_of n) (known c) (caller_of a).last (known a).made pairs (notes_of (passes_of dones))) (sym is) (all-handled value n (known c) (caller_of a).last 0 (known a).made pairs jobs dones e later d all t.seen);
+  each = subst (AreEach (IsFolded way (layout_of n) (known c)) (layout_of n) (caller_of a).last (known a).made pairs (notes_of (passes_of dones))) (sym is) (all-folded way n (known c) (caller_of a).last 0 (known a).made pairs jobs dones e later d t.seen);
   sees = sees-then (known a) (known b) (known c) (sees-same (known a) (known b) (ap (λ (v : Knowledge PlaceNote). v.seen) drawn.knows)) t.sees;
 }
 
-pub ok-handled : (value : Ui → ℕ → Message → ℕ) (n : Nucleus) (pairs : List (Ui × Ui)) (a c : Pass) (handled : Vec Handled) (all : Bool) (r : Result (Vec Handled) CrewFault) → IfOk r (λ v. (v ≡ handled) × (all ≡ true))
-    → (all ≡ true → HasHandled value n pairs handled.items a c) → IfOk r (λ v. HasHandled value n pairs v.items a c)
-ok-handled value n pairs a c handled all (Ok v) h f = subst (λ (w : Vec Handled). HasHandled value n pairs w.items a c) (sym h.0) (f h.1)
-ok-handled value n pairs a c handled all (Err e) h f = tt
+-- What the crew answers with these.
+
+pub ok-folded : {S : Type 0} (way : Way S) (n : Nucleus) (pairs : List (Ui × Ui)) (dones : List (Done S)) (a c : Pass) (folded : Vec (Folded S)) (all : Bool) (worn : Option ℕ) (r : Result (Vec (Folded S)) (Unfinished S))
+    → IfOk r (λ v. (v ≡ folded) × (all ≡ true) × (worn ≡ None)) → folded.items ≡ folded_of dones → all ≡ is_done dones → HasFolded way n pairs folded.items a c → IfOk r (λ v. HasFoldedAll way n pairs v.items a c)
+ok-folded {S} way n pairs dones a c folded all worn (Ok v) h is done f =
+    subst (λ (w : Vec (Folded S)). HasFoldedAll way n pairs w.items a c) (sym h.0)
+    (f, subst (λ (fs : List (Folded S)). All (λ (x : Folded S). x.stopped ≡ None) fs) (sym is) (all-whole dones (sym done ∙ h.1)))
+ok-folded way n pairs dones a c folded all worn (Err e) h is done f = tt
+
+pub err-folded : {S : Type 0} (way : Way S) (n : Nucleus) (pairs : List (Ui × Ui)) (a c : Pass) (folded : Vec (Folded S)) (r : Result (Vec (Folded S)) (Unfinished S)) → IfErr r (λ s. s.folded ≡ folded)
+    → HasFolded way n pairs folded.items a c → IfErr r (λ s. HasStopped way n pairs s.folded.items a c)
+err-folded way n pairs a c folded (Ok v) h f = tt
+err-folded {S} way n pairs a c folded (Err e) h f = inr (subst (λ (w : Vec (Folded S)). HasFolded way n pairs w.items a c) (sym h) f)
+
+-- with none drawn nothing was taken
+pub took-nothing : (a : Pass) → HasTakenNothing a a
+took-nothing a = record { news = []; notes = sym (append-nil (known a).notes); nothing = All-nil (λ (m : Note PlaceNote). m.mine ≡ []) }
+
+fresh-nothing : (n : Nucleus) (index seat : ℕ) (pairs : List (Ui × Ui)) (jobs : List Job) → AreEntered n index seat pairs jobs → All (λ (j : Job). (known j.pass).mine ≡ []) jobs
+fresh-nothing n index seat [] [] e = All-nil (λ (j : Job). (known j.pass).mine ≡ [])
+fresh-nothing n index seat [] (j ∷ jobs) e = absurd e
+fresh-nothing n index seat (p ∷ pairs) [] e = absurd e
+fresh-nothing n index seat (p ∷ pairs) (j ∷ jobs) e = All-cons (λ (j : Job). (known j.pass).mine ≡ []) j jobs e.0.nothing (fresh-nothing n (index + 1) (seat + 1) pairs jobs e.1)
+
+notes-nothing : (jobs : List Job) → All (λ (j : Job). (known j.pass).mine ≡ []) jobs → All (λ (m : Note PlaceNote). m.mine ≡ []) (notes_of (map (λ (j : Job). j.pass) jobs))
+notes-nothing [] a = All-nil (λ (m : Note PlaceNote). m.mine ≡ [])
+notes-nothing (j ∷ jobs) a = All-cons (λ (m : Note PlaceNote). m.mine ≡ []) (note_of (known j.pass)) (notes_of (map (λ (x : Job). x.pass) jobs))
+    (All-head (λ (x : Job). (known x.pass).mine ≡ []) j jobs a) (notes-nothing jobs (All-tail (λ (x : Job). (known x.pass).mine ≡ []) j jobs a))
+
+-- the jobs that were made are retired again
+pub undone-nothing : (n : Nucleus) (k seat : ℕ) (pairs : List (Ui × Ui)) (jobs : List Job) (a b c : Pass) → AreEntered n 0 seat pairs jobs → HasDrawn n k a b → TakesIn n b c (map (λ (j : Job). j.pass) (reverse jobs)) → HasTakenNothing a c
+undone-nothing n k seat pairs jobs a b c e d t = record {
+  news = notes_of (map (λ (j : Job). j.pass) (reverse jobs));
+  notes = t.notes ∙ ap (λ zs. zs ++ notes_of (map (λ (j : Job). j.pass) (reverse jobs))) (ap (λ (v : Knowledge PlaceNote). v.notes) d.knows);
+  nothing = notes-nothing (reverse jobs) (all-reverse (λ (j : Job). (known j.pass).mine ≡ []) jobs (fresh-nothing n 0 seat pairs jobs e));
+}
+
+pub ok-unworn : {S : Type 0} (a worn : Option ℕ) (folded : Vec (Folded S)) (all : Bool) (r : Result (Vec (Folded S)) (Unfinished S)) → IfOk r (λ v. (v ≡ folded) × (all ≡ true) × (worn ≡ None)) → a ≡ worn → OnOk r (a ≡ None)
+ok-unworn a worn folded all (Ok v) h e = e ∙ h.2
+ok-unworn a worn folded all (Err x) h e = tt

@@ -6,3 +6,4 @@ pub mod Ended
 pub mod Handing
 pub mod Entered
 pub mod Asked
+pub mod Adding

@@ -1,7 +1,7 @@
--- What the pass of a job makes.
--- q is the port, l the layout, value what a message at its position is worth, v and u are
+-- How messages are handled, and what the pass of a job makes. q is the port, l the layout, S the type of the state that
+-- is kept for a port, way how messages are folded into it, value what a message at its position is worth, v and u are
 -- what the pass knows before and after.
-use Rattle.std.specs.Prelude.{ℕ, ◌≡◌, ◌+◌, ◌%◌, ◌^◌, List, [], ◌∷◌, ◌++◌, length}
+use Rattle.std.specs.Prelude.{ℕ, ◌≡◌, ◌+◌, ◌%◌, ◌^◌, Option, Some, None, List, [], ◌∷◌, ◌++◌, length}
 use Rattle.std.specs.List.{All}
 use Rattle.chorus_ui.specs.declared.ui.Ui.{Ui}
 use Rattle.chorus_ui.specs.declared.layout.Layout.{Layout}
@@ -10,8 +10,19 @@ use Rattle.chorus_entry.specs.declared.message.Message.{Message}
 use Rattle.law_replies.specs.Taking.{taken_acts}
 use Rattle.chorus_turn.specs.declared.knowledge.Knowledge.{Knowledge}
 use Rattle.law_closing.specs.Places.{PlaceNote}
+use Rattle.chorus_nucleus.specs.declared.fault.CallFault.{CallFault}
 use Rattle.chorus_nucleus.specs.declared.taken_message.TakenMessage.{TakenMessage}
 use Rattle.chorus_nucleus.specs.Taking.{Appends, IsMiss, HasOrigin, reply_with}
+
+-- the state that a port begins with, and that after a message
+pub record Way (S : Type 0) : Type 0 where
+  pub begun : Ui → S
+  pub after : Ui → TakenMessage → S → S
+
+-- that after these messages, one after another, from the state s
+abbrev pub after_all : {S : Type 0} → Way S → Ui → List TakenMessage → S → S
+after_all way q [] s = s
+after_all way q (t ∷ ts) s = after_all way q ts (way.after q t s)
 
 -- the acts of these takes, in order
 abbrev pub took_acts : Ui → List TakenMessage → List Act
@@ -27,6 +38,36 @@ abbrev pub first_position : List TakenMessage → ℕ
 first_position [] = 0
 first_position (t ∷ ts) = t.position
 
+-- the numbers are those of these takes; and each of their messages was handled once, in this order
+pub record Folds {S : Type 0} (way : Way S) (q : Ui) (took : List TakenMessage) (from count : ℕ) (state : S)
+    : Type 0 where
+  pub first : from ≡ first_position took
+  pub number : count ≡ length took
+  pub state_is : state ≡ after_all way q took (way.begun q)
+
+-- how the takes of a port end: with one in vain, or with a fault, which appends nothing
+abbrev pub EndsBy : Ui → Option CallFault → List Act → Type 0
+EndsBy q None acts = (last : Act) × IsMiss q last × (acts ≡ last ∷ [])
+EndsBy q (Some f) acts = acts ≡ []
+
+-- these messages were taken and handled, and so it ended; nothing else was appended
+pub record Drains {S : Type 0} (way : Way S) (l : Layout) (q : Ui) (from count : ℕ) (state : S)
+    (stopped : Option CallFault) (v u : Knowledge PlaceNote) : Type 0 where
+  pub took : List TakenMessage
+  pub given : AreGiven l q took u
+  pub rest : List Act
+  pub ends : EndsBy q stopped rest
+  pub appends : Appends (took_acts q took ++ rest) v u
+  pub folds : Folds way q took from count state
+
+-- Values that are added up: the state is their sum, modulo 2^64.
+
+abbrev pub adding : (Ui → ℕ → Message → ℕ) → Way ℕ
+adding value = record {
+  begun = λ q. 0;
+  after = λ q t total. (total + value q t.position t.message) % 2 ^ 64;
+}
+
 -- the values of these messages, each once, added up
 abbrev pub worth : (Ui → ℕ → Message → ℕ) → Ui → List TakenMessage → ℕ
 worth value q [] = 0
@@ -38,19 +79,3 @@ pub record Counts (value : Ui → ℕ → Message → ℕ) (q : Ui) (took : List
   pub first : from ≡ first_position took
   pub number : count ≡ length took
   pub sum : total ≡ worth value q took % 2 ^ 64
-
--- these messages were taken, and nothing else was appended
-pub record Handles (l : Layout) (q : Ui) (v u : Knowledge PlaceNote) : Type 0 where
-  pub took : List TakenMessage
-  pub given : AreGiven l q took u
-  pub appends : Appends (took_acts q took) v u
-
--- these messages were taken and counted, and then there was none
-pub record Drains (value : Ui → ℕ → Message → ℕ) (l : Layout) (q : Ui) (from count total : ℕ)
-    (v u : Knowledge PlaceNote) : Type 0 where
-  pub took : List TakenMessage
-  pub given : AreGiven l q took u
-  pub last : Act
-  pub missed : IsMiss q last
-  pub appends : Appends (took_acts q took ++ last ∷ []) v u
-  pub counts : Counts value q took from count total

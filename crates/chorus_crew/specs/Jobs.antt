@@ -1,56 +1,53 @@
 -- Jobs, and jobs that are done.
--- n is the nucleus, l a layout, q a port, value what a message at its position is worth.
-use Rattle.std.specs.Prelude.{ℕ, ◌≡◌, ◌≤◌, ◌+◌, true, false, None, Some, List, [], ◌∷◌, map, Result, Ok, Err, slice_get}
+-- n is the nucleus, l a layout, q a port, way what the handler does.
+use Rattle.std.specs.Prelude.{ℕ, ◌≡◌, ◌≤◌, ◌+◌, true, false, None, Some, List, [], ◌∷◌, map, Option, Err, slice_get}
 use Rattle.std.specs.List.{All, Contains}
 use Rattle.chorus_ui.specs.declared.ui.Ui.{Ui}
 use Rattle.chorus_ui.specs.declared.layout.Layout.{Layout}
 use Rattle.chorus_ui.specs.Layout.{has_actor}
 use Rattle.chorus_ui.specs.NameKind.{is_actor, is_port}
-use Rattle.chorus_entry.specs.declared.message.Message.{Message}
-use Rattle.chorus_turn.specs.declared.knowledge.Knowledge.{Knowledge}
-use Rattle.law_closing.specs.Places.{PlaceNote}
 use Rattle.chorus_nucleus.specs.declared.fault.CallFault.{CallFault}
 use Rattle.chorus_nucleus.specs.declared.nucleus.Nucleus.{Nucleus}
 use Rattle.chorus_nucleus.specs.declared.pass.Pass.{Pass}
 use Rattle.chorus_nucleus.specs.Passes.{layout_of, known, caller_of, worn_by, IsPassOf}
 use Rattle.chorus_nucleus.specs.Calls.{worn_after}
+use Rattle.chorus_nucleus.specs.declared.taken_message.TakenMessage.{TakenMessage}
 use Rattle.chorus_nucleus.specs.Taking.{KeepsPass, TakesOn}
 use Rattle.chorus_crew.specs.declared.job.Job.{Job}
 use Rattle.chorus_crew.specs.declared.job.Done.{Done}
 use Rattle.chorus_crew.specs.declared.job.Tally.{Tally}
-use Rattle.chorus_crew.specs.Handling.{Handles, Drains}
+use Rattle.chorus_crew.specs.Handling.{Way, Drains}
 
-abbrev pub Worked : (Ui → ℕ → Message → ℕ) → Layout → Ui → Result Tally CallFault → Knowledge PlaceNote
-    → Knowledge PlaceNote → Type 0
-Worked value l q (Ok t) v u = Drains value l q t.from t.count t.total v u
-Worked value l q (Err f) v u = Handles l q v u
+-- the first worn clock, where a fault may have come
+abbrev pub worn_behind : Option ℕ → Option CallFault → Option ℕ
+worn_behind o None = o
+worn_behind o (Some f) = worn_after {T = Option TakenMessage} o (Err f)
 
--- the messages of the port were handled with this pass
-pub record IsWork (value : Ui → ℕ → Message → ℕ) (n : Nucleus) (q : Ui) (r : Result Tally CallFault)
-    (old new : Pass) : Type 0 where
+-- the messages of the port were taken and handled with this pass
+pub record IsWork {S : Type 0} (way : Way S) (n : Nucleus) (q : Ui) (t : Tally S) (old new : Pass) : Type 0 where
   pub keeps : KeepsPass n old new
   pub goes : TakesOn n q old new
-  pub work : Worked value (layout_of n) q r (known old) (known new)
-  pub worn : worn_by new ≡ worn_after (worn_by old) r
+  pub work : Drains way (layout_of n) q t.from t.count t.state t.stopped (known old) (known new)
+  pub worn : worn_by new ≡ worn_behind (worn_by old) t.stopped
 
 abbrev pub IsJobOf : Nucleus → Job → Type 0
 IsJobOf n job = IsPassOf n job.pass × (is_port job.port ≡ true)
 
 -- the job is done
-pub record IsDoneOf (value : Ui → ℕ → Message → ℕ) (n : Nucleus) (job : Job) (done : Done) : Type 0 where
+pub record IsDoneOf {S : Type 0} (way : Way S) (n : Nucleus) (job : Job) (done : Done S) : Type 0 where
   pub index : done.index ≡ job.index
   pub port : done.port ≡ job.port
-  pub work : IsWork value n job.port done.result job.pass done.pass
+  pub work : IsWork way n job.port done.tally job.pass done.pass
 
 -- one of these jobs is
-abbrev pub IsDoneIn : (Ui → ℕ → Message → ℕ) → Nucleus → List Job → Done → Type 0
-IsDoneIn value n jobs done = (job : Job) × Contains jobs job × IsDoneOf value n job done
+abbrev pub IsDoneIn : {S : Type 0} → Way S → Nucleus → List Job → Done S → Type 0
+IsDoneIn way n jobs done = (job : Job) × Contains jobs job × IsDoneOf way n job done
 
 -- each of these jobs is, in their order
-abbrev pub AreDoneOf : (Ui → ℕ → Message → ℕ) → Nucleus → List Job → List Done → Type 0
-AreDoneOf value n [] [] = Unit {0}
-AreDoneOf value n (j ∷ jobs) (d ∷ dones) = IsDoneOf value n j d × AreDoneOf value n jobs dones
-AreDoneOf value n _ _ = ⊥
+abbrev pub AreDoneOf : {S : Type 0} → Way S → Nucleus → List Job → List (Done S) → Type 0
+AreDoneOf way n [] [] = Unit {0}
+AreDoneOf way n (j ∷ jobs) (d ∷ dones) = IsDoneOf way n j d × AreDoneOf way n jobs dones
+AreDoneOf way n _ _ = ⊥
 
 -- each job has its place in the list as its number
 abbrev pub IsNumbered : List Job → Type 0
@@ -59,8 +56,8 @@ IsNumbered jobs = (i : ℕ) (j : Job) → slice_get jobs i ≡ Some j → j.inde
 abbrev pub indices : List Job → List ℕ
 indices jobs = map (λ (j : Job). j.index) jobs
 
-abbrev pub done_indices : List Done → List ℕ
-done_indices dones = map (λ (d : Done). d.index) dones
+abbrev pub done_indices : {S : Type 0} → List (Done S) → List ℕ
+done_indices {S} dones = map (λ (d : Done S). d.index) dones
 
 -- a pass of this nucleus that draws no numbers and into which none was retired
 pub record IsPlain (n : Nucleus) (pass : Pass) : Type 0 where

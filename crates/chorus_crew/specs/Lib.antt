@@ -7,3 +7,4 @@ pub mod Hands
 pub mod Tools
 pub mod Retiring
 pub mod Crews
+pub mod Counting

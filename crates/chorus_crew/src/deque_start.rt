@@ -26,7 +26,11 @@ pub(crate) fn put_jobs(owner: &mut Owner, jobs: &mut Vec<Job>, refused: &mut Vec
 }
 
 /// Gives each worker a pass of the deque, with a part.
-pub(crate) fn give_passes(owner: &mut Owner, rooms: &mut Vec<Vec<Done>>, hands: &mut Vec<Hand>)
+pub(crate) fn give_passes<S: Drop>(
+    owner: &mut Owner,
+    rooms: &mut Vec<Vec<Done<S>>>,
+    hands: &mut Vec<Hand<S>>,
+)
     requires parts { vec_len rooms.old < (worker_view owner.old).parts }
     requires room { (hands.old.items ≡ []) × (vec_len rooms.old ≤ vec_capacity hands.old) }
     requires empty { All (λ room. room.items ≡ []) rooms.old.items }

@@ -11,19 +11,21 @@ pub struct Job {
     pub pass: Pass,
 }
 
-/// What a job gave: the position of the first message or 0, how many messages, and the sum of their values modulo 2^64.
-#[derive(Clone, Copy)]
-pub struct Tally {
+/// What a job gave: the position of the first message or 0, how many messages, the state after them, and for which
+/// fault it stopped before there was none left.
+#[derive(Drop)]
+pub struct Tally<S> {
     pub from: u64,
     pub count: u64,
-    pub total: u64,
+    pub state: S,
+    pub stopped: Option<CallFault>,
 }
 
 /// A job that is done, with its pass.
 #[derive(Drop)]
-pub struct Done {
+pub struct Done<S> {
     pub index: usize,
     pub port: Ui,
     pub pass: Pass,
-    pub result: Result<Tally, CallFault>,
+    pub tally: Tally<S>,
 }

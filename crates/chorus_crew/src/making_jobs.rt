@@ -7,7 +7,7 @@ ghost use Rattle.chorus_nucleus.specs.Passes.{layout_of, known, caller_of, IsPas
 ghost use Rattle.chorus_nucleus.specs.Coming.{IsKeptKeeper};
 ghost use Rattle.chorus_crew.specs.declared.job.Job.{Job};
 ghost use Rattle.chorus_crew.specs.Jobs.{IsEntered, AreEntered, AreTheActors, BeginAt, HasDrawn};
-ghost use Rattle.chorus_crew.specs.Retiring.{IsRetired};
+ghost use Rattle.chorus_crew.specs.Retiring.{HasTakenNothing, IsRetired};
 
 use crate::job::Job;
 use crate::retiring::retire_jobs;
@@ -62,6 +62,7 @@ pub(crate) fn enter_all(
         × AreEntered nucleus.now 0 (known pass.old).made ports.now jobs.new.items
         × BeginAt (caller_of pass.old).last jobs.new.items) }
     ensures retired { OnErr result (IsRetired nucleus.now pass.old pass.new) }
+    ensures nothing { OnErr result (HasTakenNothing pass.old pass.new) }
 {
     for (index, (port, actor)) in ports.iter().enumerate() {
         match enter_one(nucleus, pass, index, *port, *actor) {

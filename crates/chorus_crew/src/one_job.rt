@@ -1,13 +1,13 @@
 //! What a worker does with a job.
-ghost use Rattle.std.specs.Prelude.{◌≡◌, ◌≢◌, ◌+◌, true, false, IfErr};
+ghost use Rattle.std.specs.Prelude.{◌≡◌, ◌≢◌, ◌+◌, true, false, IfSome};
 ghost use Rattle.chorus_ui.specs.NameKind.{is_port};
 ghost use Rattle.chorus_nucleus.specs.Passes.{IsPassOf};
 ghost use Rattle.chorus_nucleus.specs.Taking.{is_busy};
 ghost use Rattle.chorus_crew.specs.Jobs.{IsWork, IsJobOf, IsDoneOf};
 
-use crate::handler::Handler;
+use crate::folding::Fold;
 use crate::job::{Done, Job, Tally};
-use chorus_nucleus::{CallFault, Nucleus, Pass, take_when_free};
+use chorus_nucleus::{Nucleus, Pass, take_when_free};
 use chorus_ui::Ui;
 use std::sync::Wait;
 
@@ -32,53 +32,72 @@ fn first_of(count: u64, from: u64, pos: u64) -> u64
     if count == 0 { pos } else { from }
 }
 
-/// Takes and handles the messages of a job's port, until there is none for the caller.
+/// Takes the messages of a job's port, each behind the one before it was handled, until there is none for the caller or
+/// a take finds a fault.
 #[tactic(auto, using(crate::proofs::Draining::draining))]
-fn drain<H: Handler, R: Wait>(
+fn drain<F: Fold, R: Wait>(
     rt: &R,
     nucleus: &Nucleus,
-    handler: &H,
+    fold: &F,
     pass: &mut Pass,
     port: Ui,
-) -> Result<Tally, CallFault>
+) -> Tally<F::State>
     requires pass { IsPassOf nucleus.now pass.old }
     requires port { is_port port ≡ true }
-    ensures work { IsWork (H.value handler.now) nucleus.now port result pass.old pass.new }
-    ensures free { IfErr result (λ f. is_busy f ≡ false) }
+    ensures work { IsWork (F.way fold.now) nucleus.now port result pass.old pass.new }
+    ensures free { IfSome result.stopped (λ f. is_busy f ≡ false) }
 {
     let mut from: u64 = 0;
     let mut count: u64 = 0;
-    let mut total: u64 = 0;
+    let mut state = fold.begin(port);
     for _ in rt.forever() {
         match take_when_free(rt, nucleus, pass, port) {
-            Ok(None) => return Ok(Tally { from, count, total }),
+            Ok(None) => {
+                return Tally {
+                    from,
+                    count,
+                    state,
+                    stopped: None,
+                };
+            }
             Ok(Some(taken)) => {
-                let value = handler.handle(port, taken.position, &taken.message);
                 from = first_of(count, from, taken.position);
                 count = one_more(rt, count);
-                total = total.wrapping_add(value);
+                fold.handle(&mut state, port, taken);
             }
-            Err(fault) => return Err(fault),
+            Err(fault) => {
+                return Tally {
+                    from,
+                    count,
+                    state,
+                    stopped: Some(fault),
+                };
+            }
         }
     }
     unreachable!()
 }
 
 /// Does a job: drains its port by its pass.
-pub(crate) fn perform<H: Handler, R: Wait>(rt: &R, nucleus: &Nucleus, handler: &H, job: Job) -> Done
+pub(crate) fn perform<F: Fold, R: Wait>(
+    rt: &R,
+    nucleus: &Nucleus,
+    fold: &F,
+    job: Job,
+) -> Done<F::State>
     requires { IsJobOf nucleus.now job }
-    ensures { IsDoneOf (H.value handler.now) nucleus.now job result }
+    ensures { IsDoneOf (F.way fold.now) nucleus.now job result }
 {
     let Job {
         index,
         port,
         mut pass,
     } = job;
-    let result = drain(rt, nucleus, handler, &mut pass, port);
+    let tally = drain(rt, nucleus, fold, &mut pass, port);
     Done {
         index,
         port,
         pass,
-        result,
+        tally,
     }
 }

@@ -1,16 +1,16 @@
 //! Passes end in the caller's.
-ghost use Rattle.std.specs.Prelude.{◌≡◌, ◌≤◌, [], List, length, reverse, map, vec_capacity};
+ghost use Rattle.std.specs.Prelude.{◌≡◌, cond, false, is_none, ◌≤◌, [], List, length, reverse, map, vec_capacity};
 ghost use Rattle.std.specs.List.{All};
 ghost use Rattle.chorus_turn.specs.Lists.{somes};
 ghost use Rattle.chorus_nucleus.specs.Passes.{worn_by, IsPassOf};
 ghost use Rattle.chorus_crew.specs.declared.job.Job.{Job};
 ghost use Rattle.chorus_crew.specs.declared.job.Done.{Done};
 ghost use Rattle.chorus_crew.specs.Jobs.{IsPlain};
-ghost use Rattle.chorus_crew.specs.Retiring.{IsFullSlot, TakesIn, passes_of, handled_of, is_done, worn_of};
+ghost use Rattle.chorus_crew.specs.Retiring.{IsFullSlot, TakesIn, passes_of, folded_of, folded_with, is_done, worn_of};
 
-use crate::handler::Handled;
+use crate::folding::Folded;
 use crate::job::{Done, Job, Tally};
-use chorus_nucleus::{Nucleus, Pass};
+use chorus_nucleus::{CallFault, Nucleus, Pass};
 use chorus_ui::Ui;
 
 /// Retires the passes of all jobs, from the last on.
@@ -25,38 +25,50 @@ pub(crate) fn retire_jobs(nucleus: &Nucleus, pass: &mut Pass, jobs: &mut Vec<Job
     }
 }
 
-/// What a job gives that was done to its end.
-fn handled_by(port: Ui, tally: Tally) -> Handled
-    ensures port { result.port ≡ port }
-    ensures numbers { (result.from ≡ tally.from) × (result.count ≡ tally.count)
-        × (result.total ≡ tally.total) }
+/// What a job gives.
+fn folded_by<S>(port: Ui, tally: Tally<S>) -> Folded<S>
+    ensures { result ≡ folded_with port tally }
 {
-    Handled {
+    let Tally {
+        from,
+        count,
+        state,
+        stopped,
+    } = tally;
+    Folded {
         port,
-        from: tally.from,
-        count: tally.count,
-        total: tally.total,
+        from,
+        count,
+        state,
+        stopped,
     }
+}
+
+/// Whether all jobs were done to their end, with one more that stopped for a fault or not.
+fn are_whole(all: bool, stopped: &Option<CallFault>) -> bool
+    ensures { result ≡ cond all (is_none stopped.now) false }
+{
+    all && stopped.is_none()
 }
 
 /// Retires the passes of all jobs that are done, in order, collects what they gave, and says whether each was done to
 /// its end.
-pub(crate) fn retire_done(
+pub(crate) fn retire_done<S: Drop>(
     nucleus: &Nucleus,
     pass: &mut Pass,
-    slots: &mut Vec<Option<Done>>,
-    handled: &mut Vec<Handled>,
+    slots: &mut Vec<Option<Done<S>>>,
+    folded: &mut Vec<Folded<S>>,
 ) -> bool
     requires pass { IsPassOf nucleus.now pass.old }
     requires slots { All (IsFullSlot nucleus.now) slots.old.items }
-    requires room { (handled.old.items ≡ []) × (length slots.old.items ≤ vec_capacity handled.old) }
-    ensures retired { (dones : List Done) → slots.old.items ≡ somes dones →
+    requires room { (folded.old.items ≡ []) × (length slots.old.items ≤ vec_capacity folded.old) }
+    ensures retired { (dones : List (Done S)) → slots.old.items ≡ somes dones →
         TakesIn nucleus.now pass.old pass.new (passes_of dones) }
-    ensures worn { (dones : List Done) → slots.old.items ≡ somes dones →
+    ensures worn { (dones : List (Done S)) → slots.old.items ≡ somes dones →
         worn_by pass.new ≡ worn_of (worn_by pass.old) dones }
-    ensures handled { (dones : List Done) → slots.old.items ≡ somes dones →
-        handled.new.items ≡ handled_of dones }
-    ensures done { (dones : List Done) → slots.old.items ≡ somes dones → result ≡ is_done dones }
+    ensures folded { (dones : List (Done S)) → slots.old.items ≡ somes dones →
+        folded.new.items ≡ folded_of dones }
+    ensures done { (dones : List (Done S)) → slots.old.items ≡ somes dones → result ≡ is_done dones }
 {
     let mut all = true;
     slots.reverse();
@@ -67,13 +79,11 @@ pub(crate) fn retire_done(
                     index: _,
                     port,
                     pass: theirs,
-                    result,
+                    tally,
                 } = done;
                 nucleus.retire(theirs, pass);
-                match result {
-                    Ok(tally) => handled.push_reserved(handled_by(port, tally)),
-                    Err(_) => all = false,
-                }
+                all = are_whole(all, &tally.stopped);
+                folded.push_reserved(folded_by(port, tally));
             }
             None => unreachable!(),
         }

@@ -13,20 +13,24 @@ use std::alloc::{AllocError, Global};
 
 /// What the jobs are shared by, done with and collected in.
 #[derive(Drop)]
-pub(crate) struct Tools {
+pub(crate) struct Tools<S> {
     pub(crate) owner: Owner,
     pub(crate) thief: Thief,
-    pub(crate) rooms: Vec<Vec<Done>>,
-    pub(crate) hands: Vec<Hand>,
+    pub(crate) rooms: Vec<Vec<Done<S>>>,
+    pub(crate) hands: Vec<Hand<S>>,
     pub(crate) jobs: Vec<Job>,
     pub(crate) refused: Vec<Job>,
-    pub(crate) slots: Vec<Option<Done>>,
+    pub(crate) slots: Vec<Option<Done<S>>>,
 }
 
 /// One of a crew's tools: for each worker, memory for all jobs that it may do.
-fn rooms_for(alloc: Global, count: usize, workers: usize) -> Result<Vec<Vec<Done>>, AllocError>
+fn rooms_for<S: Drop>(
+    alloc: Global,
+    count: usize,
+    workers: usize,
+) -> Result<Vec<Vec<Done<S>>>, AllocError>
     ensures { IfOk result (λ r. (length r.items ≡ workers)
-        × All (λ (room : Vec Done). room.items ≡ []) r.items) }
+        × All (λ (room : Vec (Done S)). room.items ≡ []) r.items) }
 {
     let mut rooms = Vec::with_capacity(alloc, workers)?;
     for _ in 0..workers {
@@ -36,9 +40,9 @@ fn rooms_for(alloc: Global, count: usize, workers: usize) -> Result<Vec<Vec<Done
 }
 
 /// One of a crew's tools: a slot for each job.
-fn slots_for(alloc: Global, count: usize) -> Result<Vec<Option<Done>>, AllocError>
+fn slots_for<S: Drop>(alloc: Global, count: usize) -> Result<Vec<Option<Done<S>>>, AllocError>
     ensures { IfOk result (λ r. (length r.items ≡ count)
-        × All (λ (s : Option Done). s ≡ None) r.items) }
+        × All (λ (s : Option (Done S)). s ≡ None) r.items) }
 {
     let mut slots = Vec::with_capacity(alloc, count)?;
     for _ in 0..count {
@@ -48,7 +52,11 @@ fn slots_for(alloc: Global, count: usize) -> Result<Vec<Option<Done>>, AllocErro
 }
 
 /// The tools of a crew of so many workers for so many jobs.
-pub(crate) fn tools_for(alloc: Global, count: usize, workers: usize) -> Result<Tools, AllocError>
+pub(crate) fn tools_for<S: Drop>(
+    alloc: Global,
+    count: usize,
+    workers: usize,
+) -> Result<Tools<S>, AllocError>
     ensures { IfOk result (AreTools count workers) }
 {
     let owner = Owner::fifo_as(alloc, PAIRS_LIMIT)?;

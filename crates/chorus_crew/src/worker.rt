@@ -5,7 +5,7 @@ ghost use Rattle.chorus_crew.specs.declared.worker.Hand.{Hand};
 ghost use Rattle.crossbeam_deque.specs.Handles.{stealer_deque, view};
 ghost use Rattle.chorus_crew.specs.Hands.{Begins, Ends};
 
-use crate::handler::Handler;
+use crate::folding::Fold;
 use crate::job::Done;
 use crate::one_job::perform;
 use crate::rule::{Hold, Takes, Thief};
@@ -17,21 +17,21 @@ use std::thread::Threads;
 
 /// A worker: its pass of the deque, and the jobs that it has done. There is room for all.
 #[derive(Drop)]
-pub struct Hand {
+pub struct Hand<S> {
     pub hold: Hold,
-    pub done: Vec<Done>,
+    pub done: Vec<Done<S>>,
 }
 
 /// Steals jobs and does them, until the deque is found empty.
-pub(crate) fn steal_all<H: Handler, R: Wait>(
+pub(crate) fn steal_all<F: Fold, R: Wait>(
     rt: &R,
     nucleus: &Nucleus,
     thief: &Thief,
-    handler: &H,
-    hand: &mut Hand,
+    fold: &F,
+    hand: &mut Hand<F::State>,
 )
     requires { Begins (stealer_deque thief.now) nucleus.now (view hand.old.hold).put hand.old }
-    ensures { Ends (H.value handler.now) (stealer_deque thief.now) nucleus.now
+    ensures { Ends (F.way fold.now) (stealer_deque thief.now) nucleus.now
         (view hand.old.hold).put hand.new }
 {
     for _ in rt.forever() {
@@ -40,7 +40,7 @@ pub(crate) fn steal_all<H: Handler, R: Wait>(
         }
         match thief.steal_as::<Takes>(&mut hand.hold) {
             Steal::Success(job) => {
-                let done = perform(rt, nucleus, handler, job);
+                let done = perform(rt, nucleus, fold, job);
                 hand.done.push_reserved(done);
             }
             Steal::Empty => return,
@@ -51,31 +51,31 @@ pub(crate) fn steal_all<H: Handler, R: Wait>(
 }
 
 /// All workers steal and do jobs, in so many threads.
-pub(crate) fn all_steal<H: Handler, R: Threads + Wait + Sync>(
+pub(crate) fn all_steal<F: Fold, R: Threads + Wait + Sync>(
     rt: &R,
     nucleus: &Nucleus,
     thief: &Thief,
-    handler: &H,
-    hands: &mut [Hand],
+    fold: &F,
+    hands: &mut [Hand<F::State>],
     workers: usize,
 )
     requires workers { 0 < workers }
-    requires begins { All (λ (h : Hand). Begins (stealer_deque thief.now) nucleus.now
+    requires begins { All (λ (h : Hand F.State). Begins (stealer_deque thief.now) nucleus.now
         (view h.hold).put h) hands.old }
     ensures count { length hands.new ≡ length hands.old }
-    ensures ends { (i : ℕ) (d : Hand) → i < length hands.old →
-        Ends (H.value handler.now) (stealer_deque thief.now) nucleus.now
+    ensures ends { (i : ℕ) (d : Hand F.State) → i < length hands.old →
+        Ends (F.way fold.now) (stealer_deque thief.now) nucleus.now
         (view (slice_index_or hands.old i d).hold).put (slice_index_or hands.new i d) }
 {
     thread::for_each_mut(
         rt,
         hands,
         workers,
-        &|_, hand: &mut Hand|
+        &|_, hand: &mut Hand<F::State>|
             requires { Begins (stealer_deque thief.now) nucleus.now (view hand.now.hold).put
                 hand.now }
-            ensures { Ends (H.value handler.entry.now) (stealer_deque thief.entry.now)
+            ensures { Ends (F.way fold.entry.now) (stealer_deque thief.entry.now)
                 nucleus.entry.now (view hand.entry.now.hold).put hand.exit.now }
-        { steal_all(rt, nucleus, thief, handler, hand) },
+        { steal_all(rt, nucleus, thief, fold, hand) },
     );
 }

@@ -29,6 +29,8 @@ use Rattle.law_closing.specs.Actors.{AreActors, AreIn}
 use Rattle.chorus_turn.specs.declared.knowledge.Knowledge.{Knowledge}
 use Rattle.chorus_turn.specs.declared.knowledge.Note.{Note}
 use Rattle.law_closing.specs.Places.{PlaceNote}
+use Rattle.law_history.specs.Histories.{Follows}
+use Rattle.law_history.specs.PlaceTurns.{machine}
 use Rattle.law_closing.specs.Remarks.{turns_in}
 use Rattle.chorus_net.specs.declared.closed.Closed.{Closed}
 use Rattle.chorus_nucleus.specs.declared.nucleus.Nucleus.{Nucleus}
@@ -138,7 +140,7 @@ module _ (value : Ui → ℕ → Message → ℕ) (worth : List ℕ → ℕ) (n 
   v = known p
 
   abbrev clock : ℕ
-  clock = (caller_of p).last
+  clock = (caller_of h.before).last
 
   shape : IsLayout l
   shape = is-closed.shape
@@ -166,15 +168,15 @@ module _ (value : Ui → ℕ → Message → ℕ) (worth : List ℕ → ℕ) (n 
   closes : ClosesAs l v comers closed
   closes = (is-closed.for_actors (actors actor) are-actors).2
 
-  crewed : taking.HasTakers l v h.before clock room later
+  crewed : taking.HasTakers l v (known h.before) clock room later
   crewed = record {
     seat = h.seat;
     gave_is = h.performed ∙ ap (λ c. reverse (script room c later)) (sym took-all.1);
     some = λ none. (let s = script-first room k later some in none-cons (commands_given (turns_in v.mine)) s.front s.first (h.performed ∙ ap reverse s.is) (ap commands_given none));
-    first = h.of_nucleus.caller.thread.first;
-    last = h.of_nucleus.caller.thread.last;
-    follows = h.of_nucleus.caller.thread.follows;
-    upto = (let e = ap (λ (w : Seated). w.last) h.of_nucleus.caller.last in omega (arith, e));
+    first = h.was.caller.thread.first;
+    last = h.was.caller.thread.last;
+    follows = subst (λ mine. Follows (machine l) h.was.caller.thread.first (turns_in mine) h.was.caller.thread.last) h.settled.mine h.was.caller.thread.follows;
+    upto = (let e = ap (λ (w : Seated). w.last) h.was.caller.last in omega (arith, e));
     settled = h.settled;
     takers = took-all.0;
   }
@@ -190,7 +192,7 @@ module _ (value : Ui → ℕ → Message → ℕ) (worth : List ℕ → ℕ) (n 
 
   merges : taking.MergesAsCrewed l v comers closed room later
   merges =
-      closed-merges-as-crewed l v h.before comers closed clock room later actor shape closes crewed came h.ended (let e = took-all.1 in omega (arith, e, sites))
+      closed-merges-as-crewed l v (known h.before) comers closed clock room later actor shape closes crewed came h.ended (let e = took-all.1 in omega (arith, e, sites))
       (subst (λ c. AreWithin c later) (sym took-all.1) within)
 
   abbrev past : List Entry

@@ -3,16 +3,15 @@
 -- and the seat of the pass that takes there. A past has its newest entry first.
 use mathlib.Core.Logic.{dite}
 use native.Mathlib.Decide.{ℕ_discrete}
-use Rattle.std.proofs.Common.{ℕ, zero, suc, ◌≡◌, ◌≢◌, ◌+◌, ◌-◌, ◌<◌, ◌≤◌, ◌==◌, inl, inr, Bool, true, false, ◌&&◌, cond, nat_le, nat_lt, List, [], ◌∷◌, ◌++◌, append-nil, length, map, reverse, Option, Some, None, option_map, slice_get, refl, sym, ◌∙◌, ap, subst, arith}
+use Rattle.std.proofs.Common.{ℕ, zero, suc, ◌≡◌, ◌≢◌, ◌+◌, ◌-◌, ◌<◌, ◌≤◌, ◌==◌, inl, inr, Bool, true, false, cond, nat_le, List, [], ◌∷◌, ◌++◌, append-nil, length, map, reverse, Option, Some, None, option_map, slice_get, refl, sym, ◌∙◌, ap, subst, arith}
 use Rattle.std.specs.List.{All, filter}
-use Rattle.std.proofs.lemmas.Bool.{eqb-true, eqb-false, eq-eqb, and_parts, false≢true, leb-true, le-leb, and_from, cases_lt}
-use Rattle.std.proofs.lemmas.List.{reverse-reverse, reverse-append}
+use Rattle.std.proofs.lemmas.Bool.{eqb-true, eq-eqb, and_parts, false≢true, leb-true, le-leb, and_from, cases_lt}
+use Rattle.std.proofs.lemmas.List.{reverse-reverse}
 use Rattle.std.proofs.lemmas.List.Elements.{All-nil, All-cons, All-head, All-tail, All-weaker, All-filter, filter-append, filter_passes}
 use Rattle.chorus_ui.specs.declared.ui.Ui.{Ui}
 use Rattle.chorus_ui.specs.declared.layout.Layout.{Layout}
-use Rattle.chorus_ui.specs.Layout.{IsLayout, has_place, has_site, places}
+use Rattle.chorus_ui.specs.Layout.{IsLayout, has_place, places}
 use Rattle.chorus_entry.specs.declared.entry.Entry.{Entry}
-use Rattle.chorus_entry.specs.declared.command.Command.{Command}
 use Rattle.chorus_entry.specs.Order.{IsInOrder, IsRising, comes_before, is_at}
 use Rattle.chorus_calls.specs.Callers.{Seated}
 use Rattle.chorus_merge.specs.Merge.{merged}
@@ -29,7 +28,7 @@ use Rattle.chorus_world.proofs.Ports.Sites.{place-inside}
 use Rattle.chorus_world.proofs.Sorted.Exchange.{sorts_in_order}
 use Rattle.chorus_world.proofs.Sorted.Holders.{run_is_legal}
 use Rattle.law_network.specs.History.{history}
-use Rattle.law_network.specs.Left.{journals, merged_past}
+use Rattle.law_network.specs.Left.{merged_past}
 use Rattle.law_network.specs.Network.{Event, NetState, numbers, schedule}
 use Rattle.law_network.specs.Stands.{Stands, actor_of}
 use Rattle.law_network.proofs.Merge.Journals.{journals-are, merge-is, views}
@@ -37,6 +36,7 @@ use Rattle.law_network.proofs.Merge.Parts.{All-reverse, in-order-reverse, filter
 use Rattle.law_network.proofs.Places.Layouts.{schedule-keeps}
 use Rattle.law_network.proofs.Promises.Promised.{stands-at}
 use Rattle.law_history.specs.Histories.{Follows}
+use Rattle.law_history.specs.PlaceTurns.{machine}
 use Rattle.law_history.specs.Journals.{PlaceTurn, Comer, events, new_from}
 use Rattle.law_history.specs.Runs.{KeepsPromises, MergesAsARun, actor_among, commands_given, merged_at}
 use Rattle.law_history.proofs.Merging.{journals-keep-promises, journals-merge-as-a-run}
@@ -53,7 +53,7 @@ use Rattle.chorus_net.specs.declared.closed.Closed.{Closed}
 use Rattle.chorus_net.specs.Closing.{IsLeft, closed_journals, past_of}
 use Rattle.chorus_nucleus.specs.Closing.{ClosesAs}
 use Rattle.law_filled.specs.Filled.{AllAreSettled}
-use Rattle.law_emptied.specs.Crewed.{AllFirst, AllTake, AreWithin, IsCrewed, IsOfTake, Sending, place_on, port_on, script}
+use Rattle.law_emptied.specs.Crewed.{AllFirst, AllTake, AreWithin, IsOfTake, Sending, place_on, port_on, script}
 use Rattle.law_crews.specs.Crewed.{AreTakers, AreTheirs, CameSo, ClosedMergesAsCrewed, HasTakers, MergesAsCrewed, entries_made}
 use Rattle.law_crews.proofs.Silent.{all-from, all-two, beyond, no-links}
 
@@ -187,13 +187,13 @@ mine-at l s p (e ∷ past) h away =
 
 -- Follow-ups.
 
-same-after : (x : Seated) (ts : List PlaceTurn) (d e : Seated) → Follows x ts d → Follows x ts e → d ≡ e
-same-after x [] d e f g = sym f ∙ g
-same-after x (t ∷ ts) d e f g = same-after t.after ts d e f.1 g.1
+same-after : (l : Layout) (x : Seated) (ts : List PlaceTurn) (d e : Seated) → Follows (machine l) x ts d → Follows (machine l) x ts e → d ≡ e
+same-after l x [] d e f g = sym f ∙ g
+same-after l x (t ∷ ts) d e f g = same-after l t.after ts d e f.1 g.1
 
-same-end : (c c2 : Seated) (ts : List PlaceTurn) (d e : Seated) → ts ≢ [] → Follows c ts d → Follows c2 ts e → d ≡ e
-same-end c c2 [] d e some f g = absurd (some refl)
-same-end c c2 (t ∷ ts) d e some f g = same-after t.after ts d e f.1 g.1
+same-end : (l : Layout) (c c2 : Seated) (ts : List PlaceTurn) (d e : Seated) → ts ≢ [] → Follows (machine l) c ts d → Follows (machine l) c2 ts e → d ≡ e
+same-end l c c2 [] d e some f g = absurd (some refl)
+same-end l c c2 (t ∷ ts) d e some f g = same-after l t.after ts d e f.1 g.1
 
 map-some : {X Y : Type 0} (f : X → Y) (o : Option X) (y : Y) → option_map f o ≡ Some y → (x : X) × (o ≡ Some x)
 map-some f None y h = absurd (cc)
@@ -265,8 +265,8 @@ module _ (l : Layout) (v b : Knowledge PlaceNote) (comers : List Comer) (c : Clo
 
   last-is : k.closing.callers 0 ≡ h.last
   last-is =
-      same-end (new_from 0 (slice_get comers 0)) h.first (turns_in v.mine) (k.closing.callers 0) h.last h.some
-      (subst (λ ts. Follows (new_from 0 (slice_get comers 0)) ts (k.closing.callers 0)) its-turns (k.histories.histories.follows 0)) h.follows
+      same-end l (new_from 0 (slice_get comers 0)) h.first (turns_in v.mine) (k.closing.callers 0) h.last h.some
+      (subst (λ ts. Follows (machine l) (new_from 0 (slice_get comers 0)) ts (k.closing.callers 0)) its-turns (k.histories.histories.follows 0)) h.follows
 
   first-upto : All (λ (f : Entry). f.clock ≤ clock) (by 0 H)
   first-upto =

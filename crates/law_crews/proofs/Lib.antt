@@ -4,3 +4,7 @@ pub mod Crewed
 pub mod Positions
 pub mod Acts
 pub mod Counted
+pub mod Looks
+pub mod Lists
+pub mod HandedOut
+pub mod Taken

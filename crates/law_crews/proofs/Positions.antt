@@ -1,11 +1,12 @@
 -- The positions of takes count up.
 -- q is a port. A past has its newest entry first.
-use Rattle.std.proofs.Common.{ℕ, zero, suc, ◌≡◌, ◌+◌, ◌==◌, Bool, true, false, cond, List, [], ◌∷◌, ◌++◌, Option, Some, None, slice_get, refl, sym, ◌∙◌, ap, ap₂, subst, arith}
+use Rattle.std.proofs.Common.{ℕ, zero, suc, ◌≡◌, ◌+◌, ◌==◌, Bool, true, false, cond, List, [], ◌∷◌, ◌++◌, length, length-append, Option, Some, None, slice_get, refl, sym, ◌∙◌, ap, ap₂, subst, arith}
 use Rattle.std.proofs.lemmas.Bool.{and_parts, eqb-true, false≢true}
 use Rattle.chorus_ui.specs.declared.ui.Ui.{Ui}
 use Rattle.chorus_ui.specs.declared.layout.Layout.{Layout}
 use Rattle.chorus_ui.specs.Layout.{IsLayout}
 use Rattle.chorus_ui.specs.Name.{same_ui}
+use Rattle.chorus_ui.proofs.Names.{same_ui-self}
 use Rattle.chorus_entry.specs.declared.entry.Entry.{Entry}
 use Rattle.chorus_entry.specs.declared.id.MsgId.{MsgId}
 use Rattle.chorus_entry.specs.declared.act.Act.{Act}
@@ -16,10 +17,11 @@ use Rattle.chorus_world.specs.Views.{views, on, is_on}
 use Rattle.chorus_world.specs.Ports.{PortState, fate, fate_after, is_first_waiting, is_held_at}
 use Rattle.chorus_world.specs.AcceptedLaws.{received, received_after, taken_from}
 use Rattle.chorus_world.specs.Steps.{act_may, is_legal}
+use Rattle.chorus_world.proofs.Moments.{legal-older}
 use Rattle.chorus_world.proofs.Steps.LegalLemmas.{entry, keeps, legal_parts, on_is}
 use Rattle.chorus_world.proofs.Ports.LineLemmas.{LineIs}
 use Rattle.chorus_world.proofs.Ports.PortLaws.{legal_line, receives_in_order}
-use Rattle.law_crews.specs.Positions.{LegalTakesCountUp, count_to, positions, positions_after}
+use Rattle.law_crews.specs.Positions.{LegalTakesCountUp, LegalTakesFollow, count_to, positions, positions_after}
 
 push-some : {X : Type 0} (xs : List X) (x : X) → xs ++ x ∷ [] ≡ [] → ⊥
 push-some [] x h = cc
@@ -72,3 +74,55 @@ counts l (e ∷ past) q shape h = go (is_on (Some q) e) refl (counts l past q sh
 
 pub takes-count-up : LegalTakesCountUp
 takes-count-up l past q shape h = record { positions_are = counts l past q shape h; messages_are = (receives_in_order l past q shape h).0 }
+
+-- From one take to a later one.
+
+count-length : (n : ℕ) → length (count_to n) ≡ n
+count-length zero = refl
+count-length (suc n) = let l = length-append (count_to n) (n ∷ []) in let ih = count-length n in omega (arith, l, ih)
+
+-- how many takes of the port an entry is, which stands on its line or does not
+abbrev weight : Bool → Act → ℕ
+weight true (Act.Take q n x) = 1
+weight _ _ = 0
+
+weight-after : (a : Act) (ns : List ℕ) → length (positions_after a ns) ≡ weight true a + length ns
+weight-after (Act.Take q n x) ns = let l = length-append ns (n ∷ []) in omega (arith, l)
+weight-after _ ns = let e : length ns ≡ 0 + length ns = omega arith in e
+
+weight-more : (b : Bool) (e : Entry) (port : List Entry) → length (positions (cond b (e ∷ port) port)) ≡ weight b e.act + length (positions port)
+weight-more true e port = weight-after e.act (positions port)
+weight-more false e port = let n : length (positions port) ≡ 0 + length (positions port) = omega arith in n
+
+sum-assoc : (a b c : ℕ) → a + (b + c) ≡ (a + b) + c
+sum-assoc a b c = omega arith
+
+count-both : (q : Ui) (xs ys : List Entry) → length (positions (on q (xs ++ ys))) ≡ length (positions (on q xs)) + length (positions (on q ys))
+count-both q [] ys = let n : length (positions (on q ys)) ≡ 0 + length (positions (on q ys)) = omega arith in n
+count-both q (e ∷ xs) ys =
+    let w : ℕ = weight (is_on (Some q) e) e.act in
+    weight-more (is_on (Some q) e) e (on q (xs ++ ys)) ∙ ap (λ k. w + k) (count-both q xs ys)
+    ∙ sum-assoc w (length (positions (on q xs))) (length (positions (on q ys)))
+    ∙ ap (λ k. k + length (positions (on q ys))) (sym (weight-more (is_on (Some q) e) e (on q xs)))
+
+one-take : (e : Entry) (q : Ui) (n : ℕ) (x : MsgId) → e.act ≡ Act.Take q n x → weight (is_on (Some q) e) e.act ≡ 1
+one-take e q n x is = ap (λ a. weight (are_same same_ui (Some q) (held_port_of a)) a) is ∙ ap (λ b. weight b (Act.Take q n x)) (same_ui-self q)
+
+next-taken : (l : Layout) (past : List Entry) (e : Entry) (q : Ui) (n : ℕ) (x : MsgId) → IsLayout l → is_legal l (e ∷ past) ≡ true → e.act ≡ Act.Take q n x → n ≡ length (positions (on q past))
+next-taken l past e q n x shape h is =
+    let two = legal_parts l e past h in
+    let takes = subst (λ a. act_may l (views past e.place e.seat a) e.place e.seat a ≡ true) is two.0 in
+    let first = (and_parts (is_held_at e.place (fate (on q past))) (is_first_waiting n x (fate (on q past))) takes).1 in
+    first-is n x (fate (on q past)) first ∙ sym (count-length (taken_from (fate (on q past)))) ∙ ap (λ (ns : List ℕ). length ns) (sym (counts l past q shape two.1))
+
+one-more : (m n all between early older : ℕ) → m ≡ all → n ≡ older → all ≡ between + early → early ≡ 1 + older → m ≡ (n + 1) + between
+one-more m n all between early older a b c d = omega (arith, a, b, c, d)
+
+pub takes-follow : LegalTakesFollow
+takes-follow l newer between older late early q m n y x shape h is was =
+    let rest = between ++ early ∷ older in
+    let then = legal-older l newer (late ∷ rest) h in
+    let before = legal-older l between (early ∷ older) (legal_parts l late rest then).1 in
+    one-more m n (length (positions (on q rest))) (length (positions (on q between))) (length (positions (on q (early ∷ older)))) (length (positions (on q older)))
+    (next-taken l rest late q m y shape then is) (next-taken l older early q n x shape before was) (count-both q between (early ∷ older))
+    (weight-more (is_on (Some q) early) early (on q older) ∙ ap (λ k. k + length (positions (on q older))) (one-take early q n x was))

@@ -2,7 +2,7 @@
 -- l is a layout, p the number of a place, q a port, t a turn of a place, k and s are seats.
 use mathlib.Core.Logic.{dite}
 use native.Mathlib.Decide.{ℕ_discrete}
-use Rattle.std.proofs.Common.{ℕ, zero, suc, ◌≡◌, ◌≢◌, ◌+◌, ◌-◌, ◌<◌, ◌≤◌, ◌==◌, ◌&&◌, ◌⊎◌, inl, inr, Bool, true, false, cond, if◌then◌else◌, List, [], ◌∷◌, ◌++◌, append-nil, append_assoc, length, map, Option, Some, None, slice_get, refl, sym, ◌∙◌, ap, ap₂, subst, arith}
+use Rattle.std.proofs.Common.{ℕ, zero, suc, ◌≡◌, ◌≢◌, ◌+◌, ◌-◌, ◌<◌, ◌≤◌, ◌==◌, ◌&&◌, inl, inr, Bool, true, false, cond, if◌then◌else◌, List, [], ◌∷◌, ◌++◌, append-nil, append_assoc, length, map, Option, Some, None, slice_get, refl, sym, ◌∙◌, ap, subst, arith}
 use Rattle.std.specs.List.{All, filter}
 use Rattle.std.proofs.lemmas.Bool.{eqb-true, eq-eqb, false≢true, cases_lt}
 use Rattle.std.proofs.lemmas.List.{append_cancel_left}
@@ -23,7 +23,7 @@ use Rattle.chorus_ports.specs.declared.taking.Taken.TheVariants as takes
 use Rattle.chorus_ports.specs.Table.{find}
 use Rattle.chorus_ports.specs.Taking.{taken}
 use Rattle.law_machine.specs.PlaceState.{PlaceState, Turn, Change, started, packed, say, note, unchanged}
-use Rattle.law_machine.specs.PlaceMachine.{act, begun}
+use Rattle.law_machine.specs.PlaceMachine.{begun}
 use Rattle.law_machine.specs.Doing.{does, takes as takes_message, ends, first_message}
 use Rattle.law_machine.specs.Own.{take_act}
 use Rattle.law_history.specs.declared.turns.Input.{Input}
@@ -38,7 +38,6 @@ use Rattle.law_history.proofs.Left.{counts-tell}
 use Rattle.law_closing.specs.Places.{PlaceNote}
 use Rattle.law_closing.specs.Remarks.{turns_at, turn_of, begins, turns_in}
 use Rattle.law_closing.specs.Closing.{IsPlace, Tells}
-use Rattle.law_closing.specs.Seen.{HasSeen}
 use Rattle.chorus_turn.specs.declared.knowledge.Note.{Note}
 use Rattle.chorus_turn.specs.declared.knowledge.Remarked.{Remarked}
 use Rattle.chorus_turn.specs.declared.knowledge.Knowledge.{Knowledge}

@@ -11,6 +11,7 @@ use Rattle.chorus_entry.specs.declared.entry.Entry.{Entry}
 use Rattle.chorus_calls.specs.Callers.{Seated}
 use Rattle.chorus_world.specs.Views.{by}
 use Rattle.law_history.specs.Histories.{Follows}
+use Rattle.law_history.specs.PlaceTurns.{machine}
 use Rattle.law_history.specs.Journals.{Comer}
 use Rattle.law_history.specs.Places.{all_put, all_got}
 use Rattle.law_history.specs.Runs.{actor_among}
@@ -54,7 +55,7 @@ pub record HasTakers (l : Layout) (v b : Knowledge PlaceNote) (clock n : ℕ) (l
   pub some : turns_in v.mine ≢ []
   pub first : Seated
   pub last : Seated
-  pub follows : Follows first (turns_in v.mine) last
+  pub follows : Follows (machine l) first (turns_in v.mine) last
   pub upto : last.last ≤ clock
   pub settled : IsSettledAt l b v
   pub takers : AreTakers l clock 1 v.notes

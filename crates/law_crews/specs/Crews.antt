@@ -9,8 +9,6 @@ use Rattle.chorus_ui.specs.Layout.{has_actor}
 use Rattle.chorus_ui.specs.NameKind.{is_actor}
 use Rattle.chorus_entry.specs.declared.message.Message.{Message}
 use Rattle.law_closing.specs.Actors.{AreIn}
-use Rattle.law_closing.specs.Places.{PlaceNote}
-use Rattle.chorus_turn.specs.declared.knowledge.Knowledge.{Knowledge}
 use Rattle.chorus_net.specs.declared.closed.Closed.{Closed}
 use Rattle.chorus_nucleus.specs.declared.nucleus.Nucleus.{Nucleus}
 use Rattle.chorus_nucleus.specs.declared.pass.Pass.{Pass}
@@ -37,9 +35,10 @@ pub record HasCrewed (value : Ui → ℕ → Message → ℕ) (n : Nucleus) (act
   pub performed : gave (known p) ≡ reverse (script room k later)
   pub within : AreIn actor (known p).mine
   pub ended : (known p).made ≡ length (known p).notes + 1
-  pub before : Knowledge PlaceNote
-  pub settled : IsSettledAt (layout_of n) before (known p)
-  pub handled_is : AreHandled value (layout_of n) (known p) (caller_of p).last 1 (pairs_from 1 k) (known p).notes
+  pub before : Pass
+  pub was : IsPassOf n before
+  pub settled : IsSettledAt (layout_of n) (known before) (known p)
+  pub handled_is : AreHandled value (layout_of n) (known p) (caller_of before).last 1 (pairs_from 1 k) (known p).notes
       handled
 
 -- it handled the first of these messages, as many as there is room for, and added up what their bodies are worth

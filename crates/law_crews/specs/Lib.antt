@@ -2,3 +2,5 @@ pub mod Posted
 pub mod Crewed
 pub mod Positions
 pub mod Crews
+pub mod Looks
+pub mod Taken

@@ -1,7 +1,8 @@
 //! What takes hand out. The laws speak of the definitions alone and make no call.
 
 ghost use Rattle.law_crews.specs.Crewed.{ClosedMergesAsCrewed};
-ghost use Rattle.law_crews.specs.Positions.{LegalTakesCountUp};
+ghost use Rattle.law_crews.specs.Looks.{LooksToldWhatWaited};
+ghost use Rattle.law_crews.specs.Positions.{LegalTakesCountUp, LegalTakesFollow};
 ghost use Rattle.law_crews.specs.Posted.{MessagesTakenWerePosted};
 
 /// A message that a take handed out has the id, the tag and the body that were posted, as the journals of the closed
@@ -20,8 +21,17 @@ pub fn what_was_sent_comes_before_what_was_taken()
 
 /// The takes of a port, whoever made them, stand in acceptance order, in the merge of closed journals as in every legal
 /// list: their positions are 0, 1, 2 and so on, and their messages the first that the port accepted, each of which stands
-/// once there (`accepted_message_has_one_fate` of `chorus_world`). So the takes of one seat have positions that follow one
-/// another wherever no other seat takes between them.
+/// once there (`accepted_message_has_one_fate` of `chorus_world`). From one take to a later one the position grows by one, and
+/// by one for each take of the port between them (`follow`): so the positions of one seat's takes rise, and follow one another
+/// without a gap wherever no other seat takes between.
 pub fn takes_count_up()
-    ensures { LegalTakesCountUp }
+    ensures count { LegalTakesCountUp }
+    ensures follow { LegalTakesFollow }
+{}
+
+/// What a receive told was so: in the merge of what was closed, for each entry of the pass that closed or of one that was
+/// retired into it, Empty tells that the caller's actor held the port and none waited; NotHere, that the actor did not hold it,
+/// at whatever place; and a Take, that the actor held it and this message was the first that waited.
+pub fn a_look_in_vain_found_nothing()
+    ensures { LooksToldWhatWaited }
 {}

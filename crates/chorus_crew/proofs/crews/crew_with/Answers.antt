@@ -1,62 +1,26 @@
-use Rattle.std.proofs.Common.{◌≡◌, Option, List, length, arith, ap, subst, sym, ◌∙◌}
-use Rattle.std.specs.List.{All}
-use Rattle.chorus_nucleus.specs.Passes.{known}
-use Rattle.chorus_crew.specs.declared.job.Done.{Done}
-use Rattle.chorus_crew.specs.Retiring.{IsFullSlot}
-use Rattle.chorus_crew.proofs.Handing.{entered-jobs, entered-numbers, entered-count, done-slots, done-count, all-retired, has-handled, ok-handled}
+use Rattle.std.proofs.Common.{arith}
+use Rattle.chorus_nucleus.specs.Passes.{layout_of}
+use Rattle.chorus_crew.proofs.Asked.{pairs_are}
+use Rattle.chorus_crew.proofs.Handing.{retired-none}
 use Rattle.chorus_crew.proofs.crews.crew_with.Goals as goal
 
-pub do_jobs-slots-requires-clause-tools : goal.do_jobs-slots-requires-clause-tools
-do_jobs-slots-requires-clause-tools g c κs within =
-    let t = c.requires.equipped.tools.tools in
-    let len : length c.enter_all.new.jobs.items ≡ length c.args.ports.now = entered-count c.args.nucleus.now 0 (known c.args.pass.now).made c.args.ports.now c.enter_all.new.jobs.items c.in_default.ensures.ok.1 in
-    record {
-      view_is = t.view_is;
-      flavor = t.flavor;
-      thief = t.thief;
-      rooms = t.rooms;
-      empty = t.empty;
-      hands = t.hands;
-      refused = (t.refused.0, let r = t.refused.1 in omega (arith, r, len));
-      slots = t.slots ∙ sym len;
-      none = t.none;
-    }
+pub run_crew-requires-clause-ports : goal.run_crew-requires-clause-ports
+run_crew-requires-clause-ports g c κs within = pairs_are (layout_of c.args.nucleus.now) c.args.ports.now c.requires.ports
 
-pub do_jobs-slots-requires-clause-jobs : goal.do_jobs-slots-requires-clause-jobs
-do_jobs-slots-requires-clause-jobs g c κs within =
-    entered-jobs c.args.nucleus.now 0 (known c.args.pass.now).made c.args.ports.now c.enter_all.new.jobs.items c.requires.ports.ports c.in_default.ensures.ok.1
+pub returns-in-Err-clause-retired : goal.returns-in-Err-clause-retired
+returns-in-Err-clause-retired g c = retired-none c.args.nucleus.now c.args.pass.now c.requires.caller.pass c.requires.caller.keeper
 
-pub do_jobs-slots-requires-clause-numbers : goal.do_jobs-slots-requires-clause-numbers
-do_jobs-slots-requires-clause-numbers g c κs within =
-    entered-numbers c.args.nucleus.now (known c.args.pass.now).made c.args.ports.now c.enter_all.new.jobs.items c.in_default.ensures.ok.1
+pub returns-in_default-tools_for-clause-retired : goal.returns-in_default-tools_for-clause-retired
+returns-in_default-tools_for-clause-retired g c = retired-none c.args.nucleus.now c.args.pass.now c.requires.caller.pass c.requires.caller.keeper
 
-pub retire_done-all-requires-clause-slots : goal.retire_done-all-requires-clause-slots
-retire_done-all-requires-clause-slots g c =
-    let n = c.args.nucleus.now in
-    let d = c.do_jobs-slots.ensures in
-    subst (λ (l : List (Option Done)). All (IsFullSlot n) l) (sym d.1)
-    (done-slots (g.H.Handler.value c.args.handler.now) n 0 (known c.args.pass.now).made c.args.ports.now c.enter_all.new.jobs.items d.0 c.in_default.ensures.ok.1 d.2)
+pub returns-in_default-with_capacity-clause-retired : goal.returns-in_default-with_capacity-clause-retired
+returns-in_default-with_capacity-clause-retired g c = retired-none c.args.nucleus.now c.args.pass.now c.requires.caller.pass c.requires.caller.keeper
 
-pub retire_done-all-requires-clause-room : goal.retire_done-all-requires-clause-room
-retire_done-all-requires-clause-room g c =
-    let n = c.args.nucleus.now in
-    let d = c.do_jobs-slots.ensures in
-    let len = entered-count n 0 (known c.args.pass.now).made c.args.ports.now c.enter_all.new.jobs.items c.in_default.ensures.ok.1 in
-    let count = done-count (g.H.Handler.value c.args.handler.now) n c.enter_all.new.jobs.items d.0 d.2 in
-    let slots = ap length d.1 in
-    let room = c.requires.equipped.room.1 in
-    (c.requires.equipped.room.0, omega (arith, len, count, slots, room))
+pub returns-clause-unchanged : goal.returns-clause-unchanged
+returns-clause-unchanged g c = λ made is. absurd (c.run_crew.ensures.no_seat made is)
 
-pub returns-clause-retired : goal.returns-clause-retired
-returns-clause-retired g c =
-    let d = c.do_jobs-slots.ensures in
-    all-retired (g.H.Handler.value c.args.handler.now) c.args.nucleus.now c.args.ports.now c.enter_all.new.jobs.items d.0 c.args.pass.now c.enter_all.new.pass c.retire_done-all.new.pass
-    c.requires.caller.keeper c.in_default.ensures.ok.0 c.in_default.ensures.ok.1 d.2 (c.retire_done-all.ensures.retired d.0 d.1)
-
-pub returns-clause-ok : goal.returns-clause-ok
-returns-clause-ok g c =
-    let d = c.do_jobs-slots.ensures in
-    let k = c.retire_done-all.ensures in
-    ok-handled (g.H.Handler.value c.args.handler.now) c.args.nucleus.now c.args.ports.now c.args.pass.now c.retire_done-all.new.pass c.retire_done-all.new.handled c.retire_done-all.result c.answer.result c.answer.ensures.ok
-    (λ all. has-handled (g.H.Handler.value c.args.handler.now) c.args.nucleus.now c.args.ports.now c.enter_all.new.jobs.items d.0 c.args.pass.now c.enter_all.new.pass c.retire_done-all.new.pass c.retire_done-all.new.handled.items
-    c.in_default.ensures.ok.0 c.in_default.ensures.ok.1 c.in_default.ensures.ok.2 d.2 (k.retired d.0 d.1) (sym (k.done d.0 d.1) ∙ all) (k.handled d.0 d.1))
+pub returns-clause-no_seat : goal.returns-clause-no_seat
+returns-clause-no_seat g c = λ made. (
+  λ is. absurd (c.run_crew.ensures.no_seat made is),
+  λ both. let room = c.in_default.ensures.ok in let full = both.1 in absurd (omega (arith, room, full)),
+)

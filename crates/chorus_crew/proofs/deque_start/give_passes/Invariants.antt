@@ -6,7 +6,7 @@ use Rattle.chorus_crew.specs.Rule.{share}
 use Rattle.chorus_crew.proofs.deque_start.give_passes.Given as goal
 
 abbrev pub invariant-loop-done : goal.invariant-loop-done
-invariant-loop-done l = record {
+invariant-loop-done g l = record {
   deque : worker_deque l.owner ≡ worker_deque l.fn.owner;
   flavor : worker_flavor l.owner ≡ worker_flavor l.fn.owner;
   view_is : worker_view l.owner ≡ share (worker_view l.owner).parts (worker_view l.fn.owner).put (worker_view l.fn.owner).taken;
@@ -18,4 +18,4 @@ invariant-loop-done l = record {
 }
 
 abbrev pub decreases-loop-done : goal.decreases-loop-done
-decreases-loop-done l = goal.left-loop-done l
+decreases-loop-done g l = goal.left-loop-done g l

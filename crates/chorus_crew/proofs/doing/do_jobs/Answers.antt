@@ -17,7 +17,7 @@ all_steal-requires-clause-begins g c κs within =
     let n = c.args.nucleus in
     let put : List Job = (worker_view c.put_jobs.new.owner).put in
     let thief = stealer_deque c.args.tools.thief in
-    subst (λ (l : List Hand). All (λ (h : Hand). Begins thief n.now (view h.hold).put h) l) (sym c.as_mut_slice.ensures.value)
+    subst (λ (l : List (Hand g.row.F-State.Denot)). All (λ (h : Hand g.row.F-State.Denot). Begins thief n.now (view h.hold).put h) l) (sym c.as_mut_slice.ensures.value)
     (begins-all (worker_deque c.put_jobs.new.owner) thief n.now put c.give_passes.new.hands.items
     (c.requires.tools.thief ∙ sym c.put_jobs.ensures.deque.0)
     (all-of (IsJobOf n.now) c.args.tools.jobs.items put c.requires.jobs c.put_jobs.ensures.dealt.put) c.give_passes.ensures.hands)
@@ -25,7 +25,7 @@ all_steal-requires-clause-begins g c κs within =
 -- They end: what each did is of the jobs that were put.
 pub take_in-requires-clause-hands : goal.take_in-requires-clause-hands
 take_in-requires-clause-hands g c κs within =
-    let V = g.H.Handler.value c.args.handler.now in
+    let V = g.F.Fold.way c.args.fold.now in
     let n = c.args.nucleus.now in
     let put : List Job = (worker_view c.put_jobs.new.owner).put in
     let same : stealer_deque c.args.tools.thief ≡ worker_deque c.put_jobs.new.owner = c.requires.tools.thief ∙ sym c.put_jobs.ensures.deque.0 in
@@ -34,9 +34,9 @@ take_in-requires-clause-hands g c κs within =
     same ready c.all_steal.ensures.count c.all_steal.ensures.ends in
     let kept : put ≡ (worker_view c.give_passes.new.owner).put = sym (ap (λ (v : Share). v.put) c.give_passes.ensures.view.0) in
     let written = with_items_is c.give_passes.new.hands c.all_steal.new.hands (c.all_steal.ensures.count ∙ c.as_mut_slice.ensures.len) in
-    subst (λ (l : List Hand). All (λ (h : Hand). Ends V (worker_deque c.give_passes.new.owner) n (worker_view c.give_passes.new.owner).put h) l) (sym written)
-    (subst (λ d. All (λ (h : Hand). Ends V d n (worker_view c.give_passes.new.owner).put h) c.all_steal.new.hands) (sym c.give_passes.ensures.deque.0)
-    (subst (λ (l : List Job). All (λ (h : Hand). Ends V (worker_deque c.put_jobs.new.owner) n l h) c.all_steal.new.hands) kept all))
+    subst (λ (l : List (Hand g.row.F-State.Denot)). All (λ (h : Hand g.row.F-State.Denot). Ends V (worker_deque c.give_passes.new.owner) n (worker_view c.give_passes.new.owner).put h) l) (sym written)
+    (subst (λ d. All (λ (h : Hand g.row.F-State.Denot). Ends V d n (worker_view c.give_passes.new.owner).put h) c.all_steal.new.hands) (sym c.give_passes.ensures.deque.0)
+    (subst (λ (l : List Job). All (λ (h : Hand g.row.F-State.Denot). Ends V (worker_deque c.put_jobs.new.owner) n l h) c.all_steal.new.hands) kept all))
 
 pub take_in-requires-clause-numbers : goal.take_in-requires-clause-numbers
 take_in-requires-clause-numbers g c κs within =
@@ -47,7 +47,7 @@ take_in-requires-clause-numbers g c κs within =
 
 pub take_in-requires-clause-slots : goal.take_in-requires-clause-slots
 take_in-requires-clause-slots g c κs within =
-    slots-none (g.H.Handler.value c.args.handler.now) c.args.nucleus.now (worker_view c.give_passes.new.owner).put (worker_view c.give_passes.new.owner).taken c.args.tools.slots.items
+    slots-none (g.F.Fold.way c.args.fold.now) c.args.nucleus.now (worker_view c.give_passes.new.owner).put (worker_view c.give_passes.new.owner).taken c.args.tools.slots.items
     (ap (λ (v : Share). v.taken) c.give_passes.ensures.view.0 ∙ c.put_jobs.ensures.dealt.none) c.requires.tools.none
 
 pub do_left-requires-clause-jobs : goal.do_left-requires-clause-jobs
@@ -66,7 +66,7 @@ do_left-requires-clause-numbers g c κs within =
 
 pub do_left-requires-clause-slots : goal.do_left-requires-clause-slots
 do_left-requires-clause-slots g c κs within =
-    subst (λ (l : List Job). AreSlots (g.H.Handler.value c.args.handler.now) c.args.nucleus.now l (worker_view c.take_in.new.owner).taken c.take_in.new.slots.items) (sym c.take_in.ensures.parts.put) c.take_in.ensures.slots
+    subst (λ (l : List Job). AreSlots (g.F.Fold.way c.args.fold.now) c.args.nucleus.now l (worker_view c.take_in.new.owner).taken c.take_in.new.slots.items) (sym c.take_in.ensures.parts.put) c.take_in.ensures.slots
 
 pub do_refused-requires-clause-jobs : goal.do_refused-requires-clause-jobs
 do_refused-requires-clause-jobs g c κs within =
@@ -81,7 +81,7 @@ do_refused-requires-clause-numbers g c κs within =
 -- Each job is in the slot of its number.
 pub returns : goal.returns
 returns g c =
-    let V = g.H.Handler.value c.args.handler.now in
+    let V = g.F.Fold.way c.args.fold.now in
     let n = c.args.nucleus.now in
     let jobs : List Job = c.args.tools.jobs.items in
     let v : Share = worker_view c.put_jobs.new.owner in

@@ -10,7 +10,7 @@ use Rattle.chorus_ui.specs.NameKind.{is_actor}
 use Rattle.chorus_nucleus.specs.Passes.{caller_of, known, layout_of}
 use Rattle.chorus_crew.specs.declared.job.Job.{Job}
 use Rattle.chorus_crew.specs.Jobs.{AreEntered, BeginAt}
-use Rattle.chorus_crew.proofs.Handing.{entered-count}
+use Rattle.chorus_crew.proofs.Handing.{entered-count, undone-nothing}
 use Rattle.chorus_crew.proofs.Entered.{drawn-none, drawn-more, drawn-same, entered-next, entered-plain, take-length, undone}
 use Rattle.chorus_crew.proofs.making_jobs.enter_all.Goals as goal
 
@@ -66,3 +66,10 @@ loop-index-preserved c =
           subst (All B) (sym items) (All-push B c.loop-index.jobs.items c.in-Ok.job i.later (omega (arith, same, last)));
       room = let r = i.room in let m = c.push_reserved.ensures.capacity in omega (arith, r, m);
     }
+
+pub returns-in-Err-clause-nothing : goal.returns-in-Err-clause-nothing
+returns-in-Err-clause-nothing c =
+    let n = c.args.nucleus.now in
+    let i = c.loop-index.invariant in
+    undone-nothing n c.loop-index.index (known c.args.pass.now).made (take c.loop-index.index c.args.ports.now) c.loop-index.jobs.items c.args.pass.now c.enter_one.new.pass c.retire_jobs.new.pass i.entered
+    (drawn-same n c.loop-index.index c.args.pass.now c.loop-index.pass c.enter_one.new.pass i.drawn c.enter_one.ensures.kept c.in-Err.ensures.refused) c.retire_jobs.ensures

@@ -5,4 +5,4 @@ use Rattle.chorus_crew.specs.declared.job.Done.{Done}
 use Rattle.chorus_crew.proofs.tools.rooms_for.Given as goal
 
 abbrev pub invariant-loop : goal.invariant-loop
-invariant-loop l = (length l.rooms.items ≡ l.counter) × (l.counter ≤ l.workers) × All (λ (room : Vec Done). room.items ≡ []) l.rooms.items
+invariant-loop g l = (length l.rooms.items ≡ l.counter) × (l.counter ≤ l.workers) × All (λ (room : Vec (Done g.row.S.Denot)). room.items ≡ []) l.rooms.items

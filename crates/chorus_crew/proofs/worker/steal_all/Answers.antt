@@ -25,12 +25,12 @@ perform-done-requires-after_bounds g c κs within =
 pub loop-preserved-in-Success : goal.loop-preserved-in-Success
 loop-preserved-in-Success g c =
     let put : List Job = (view c.args.hand.now.hold).put in
-    let old : List Done = c.loop.hand.done.items in
+    let old : List (Done g.row.F-State.Denot) = c.loop.hand.done.items in
     let t = took_one (view c.loop.hand.hold) (view c.steal_as.new.pass) put (done_indices old) c.in-Success.job c.loop.invariant.view_is c.in-Success.ensures.rule in
     let grown : c.push_reserved.new.self.items ≡ old ++ c.perform-done.result ∷ [] = c.push_reserved.ensures.items in
-    let one : IsDoneIn (g.H.Handler.value c.args.handler.now) c.args.nucleus.now put c.perform-done.result = (c.in-Success.job, t.1, c.perform-done.ensures) in
+    let one : IsDoneIn (g.F.Fold.way c.args.fold.now) c.args.nucleus.now put c.perform-done.result = (c.in-Success.job, t.1, c.perform-done.ensures) in
     record {
       pass = search rules;
-      view_is = t.0 ∙ done_more put old c.perform-done.result c.in-Success.job c.perform-done.ensures.index ∙ ap (λ (l : List Done). share 1 put (done_indices l)) (sym grown);
-      done = subst (λ (l : List Done). All (IsDoneIn (g.H.Handler.value c.args.handler.now) c.args.nucleus.now put) l) (sym grown) (All-push (IsDoneIn (g.H.Handler.value c.args.handler.now) c.args.nucleus.now put) old c.perform-done.result c.loop.invariant.done one);
+      view_is = t.0 ∙ done_more put old c.perform-done.result c.in-Success.job c.perform-done.ensures.index ∙ ap (λ (l : List (Done g.row.F-State.Denot)). share 1 put (done_indices l)) (sym grown);
+      done = subst (λ (l : List (Done g.row.F-State.Denot)). All (IsDoneIn (g.F.Fold.way c.args.fold.now) c.args.nucleus.now put) l) (sym grown) (All-push (IsDoneIn (g.F.Fold.way c.args.fold.now) c.args.nucleus.now put) old c.perform-done.result c.loop.invariant.done one);
     }

@@ -9,5 +9,5 @@ abbrev pub invariant-loop : goal.invariant-loop
 invariant-loop g l = record {
   pass : IsPassOf (stealer_deque l.thief) l.hand.hold;
   view_is : view l.hand.hold ≡ share 1 (view l.fn.hand.hold).put (done_indices l.hand.done.items);
-  done : All (IsDoneIn (g.H.Handler.value l.handler) l.nucleus (view l.fn.hand.hold).put) l.hand.done.items;
+  done : All (IsDoneIn (g.F.Fold.way l.fold) l.nucleus (view l.fn.hand.hold).put) l.hand.done.items;
 }

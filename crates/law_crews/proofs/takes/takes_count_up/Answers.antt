@@ -1,5 +1,8 @@
-use Rattle.law_crews.proofs.Positions.{takes-count-up}
+use Rattle.law_crews.proofs.Positions.{takes-count-up, takes-follow}
 use Rattle.law_crews.proofs.takes.takes_count_up.Goals as goal
 
-pub returns : goal.returns
-returns c = takes-count-up
+pub returns-clause-count : goal.returns-clause-count
+returns-clause-count c = takes-count-up
+
+pub returns-clause-follow : goal.returns-clause-follow
+returns-clause-follow c = takes-follow
