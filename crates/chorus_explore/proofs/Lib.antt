@@ -2,6 +2,7 @@ pub mod Staging
 pub mod Racing
 pub mod Going
 pub mod Searching
+pub mod Carrying
 pub mod Explaining
 pub mod Moving
 pub mod Entering
@@ -14,4 +15,5 @@ pub mod Alike
 pub mod Spares
 pub mod Happening
 pub mod Whole
+pub mod Returning
 pub mod AlikeSites

@@ -16,7 +16,7 @@ use Rattle.law_machine.specs.PlaceState.{PlaceState, next_entry}
 use Rattle.law_machine.specs.PlaceMachine.{act, begun_by, work}
 use Rattle.law_machine.specs.Own.{own}
 use Rattle.law_machine.proofs.Machine.Stays.{act-stays}
-use Rattle.law_network.specs.Network.{NetState, Event, Enter, Act, Deliver, happened, commanded, delivered, works_off, place, place_in, with_place, schedule, turn_for}
+use Rattle.law_network.specs.Network.{NetState, Event, Enter, Act, Deliver, See, shown, happened, commanded, delivered, works_off, place, place_in, with_place, schedule, turn_for}
 use Rattle.law_network.specs.Packets.{AreByLink, first_on, rest_on}
 use Rattle.law_network.specs.Calls.{first_actor, starting}
 use Rattle.law_network.proofs.Links.LinkViews.{rest-order}
@@ -52,6 +52,7 @@ in-by [] = refl
 in-by (Enter actor last ∷ es) = ap (λ xs. actor ∷ xs) (in-by es)
 in-by (Act k d ∷ es) = in-by es
 in-by (Deliver k a b ∷ es) = in-by es
+in-by (See k clock ∷ es) = in-by es
 
 module _ (c : Scene) where
   abbrev pub base : List Event
@@ -158,6 +159,11 @@ entry-at old new past newer e was is =
 packets-ordered : (l : Layout) (es : List Event) → AreByLink (schedule l es).packets
 packets-ordered l [] = tt
 packets-ordered l (Enter actor last ∷ es) = packets-ordered l es
+packets-ordered l (See k clock ∷ es) = by (slice_get (schedule l es).callers k) (packets-ordered l es)
+  where
+    by : (o : Option Seated) → AreByLink (schedule l es).packets → AreByLink (shown k clock o (schedule l es)).packets
+    by None h = h
+    by (Some w) h = h
 packets-ordered l (Act k d ∷ es) = by (slice_get (schedule l es).callers k) (packets-ordered l es)
   where
     by : (o : Option Seated) → AreByLink (schedule l es).packets → AreByLink (commanded k d o (schedule l es)).packets

@@ -4,13 +4,13 @@
 use Rattle.std.proofs.Common.{ℕ, zero, suc, min, ◌≡◌, ◌+◌, ◌-◌, ◌^◌, ◌<◌, ◌≤◌, ◌==◌, Bool, true, false, cond, List, [], ◌∷◌, ◌++◌, length, map, take, reverse, get_or, set, sum_by, Some, slice_get, ◌⊎◌, inl, inr, refl, sym, ◌∙◌, ap, subst, arith, append_assoc}
 use Rattle.std.specs.List.{All, Contains, flat_map}
 use Rattle.std.proofs.lemmas.Bool.{eq-eqb, eqb-true, false≢true}
-use Rattle.std.proofs.lemmas.List.{append-nil, length-append, length-map}
-use Rattle.std.proofs.lemmas.List.Elements.{All-nil, All-cons, All-head, All-tail, All-append, All-set, All-contains, All-weaker, Contains-append_cases, Contains-append_left}
+use Rattle.std.proofs.lemmas.List.{append-nil, length-append, length-map, nil_from_length}
+use Rattle.std.proofs.lemmas.List.Elements.{All-nil, All-cons, All-head, All-tail, All-append, All-set, All-contains, All-weaker, Contains-append_left, Contains-append_right, Contains-get_or}
 use Rattle.std.proofs.lemmas.List.Sums.{sum_by-append, sum_by-cons}
 use Rattle.law_explore.specs.declared.moves.Move.{Move}
 use Rattle.law_explore.specs.Explores.{told_number}
 use Rattle.law_explore.specs.Levels.{histories_of}
-use Rattle.law_explore.specs.Members.{Merged, all_members, going_by, going_on, with_move, next_members, SameHistories, IsEnd, IsMember, IsMerged, IsLevel, AreFound}
+use Rattle.law_explore.specs.Members.{Merged, all_members, going_by, going_on, with_move, next_members, SameHistories, IsEnd, IsMember, IsMerged, IsLevel, AreFound, AreOnce}
 use Rattle.law_explore.specs.Merging.{ComeToldAlike}
 use Rattle.law_explore.specs.Positions.{next_behind}
 use Rattle.law_explore.specs.Search.{IsHistory}
@@ -24,17 +24,17 @@ use Rattle.law_replay.specs.Shown.{race_of}
 use Rattle.chorus_scene.specs.Scene.{Scene}
 use Rattle.chorus_scene.specs.declared.limits.TheConstants.{STEPS_LIMIT}
 use Rattle.explore_report.specs.declared.explored.Explored.{Explored}
-use Rattle.explore_report.specs.Findings.{AreFindings, ComeTo, Counts}
+use Rattle.explore_report.specs.Findings.{AreFindings, AreLater, ComeTo, Counts}
 use Rattle.chorus_explore.specs.declared.level_search.Class.{Class}
 use Rattle.chorus_explore.specs.declared.level_search.Search.{Search}
 use Rattle.chorus_explore.specs.Classes.{AreClasses, StandFor, StandsFor, shown_by}
-use Rattle.chorus_explore.specs.Searches.{HasFound, IsLong, IsOver, IsWithin, Come}
+use Rattle.chorus_explore.specs.Searches.{HasFound, IsLong, IsOver, IsWithin, Come, LeavesOut}
 use Rattle.chorus_explore.specs.Stages.{comes, position}
 use Rattle.chorus_explore.specs.Tellings.{tells_of}
 use Rattle.chorus_explore.proofs.Alike.{comes-the-same, tells-on}
 use Rattle.chorus_explore.proofs.Racing.{is-race}
 
-some-is : {X : Type 0} (x y : X) → Some x ≡ Some y → x ≡ y
+pub some-is : {X : Type 0} (x y : X) → Some x ≡ Some y → x ≡ y
 some-is x y e = cc
 
 pub read-same : {X : Type 0} (xs : List X) (i : ℕ) (x y : X) → slice_get xs i ≡ Some x → y ≡ get_or xs i y → y ≡ x
@@ -55,7 +55,7 @@ classes-set c classes i old new at same h =
 
 -- Nothing was found yet.
 none-found : (comes : List Move → List ℕ) → AreFindings comes [] []
-none-found comes = record { shown = All-nil _; once = λ i j d lt within. absurd (omega (arith, lt, within)); found = All-nil _; counted = All-nil _ }
+none-found comes = record { shown = All-nil _; once = λ i j d lt within. absurd (omega (arith, lt, within)); found = All-nil _; counted = All-nil _; first = All-nil _ }
 
 -- numbers that are told add up
 pub told-both : (a b x y z : ℕ) → x ≡ told_number a → y ≡ told_number b → z ≡ min (x + y) (2 ^ 64 - 1) → z ≡ told_number (a + b)
@@ -98,13 +98,21 @@ joined-go r (suc k) m (d ∷ ds) h =
     All-cons (λ (x : Merged). IsEnd r x.shows → ⊥) d (joined k m ds) (All-head (λ (x : Merged). IsEnd r x.shows → ⊥) d ds h)
     (joined-go r k m ds (All-tail (λ (x : Merged). IsEnd r x.shows → ⊥) d ds h))
 
-contains-map : {X Y : Type 0} (f : X → Y) (xs : List X) (x : X) → Contains xs x → Contains (map f xs) (f x)
+pub contains-map : {X Y : Type 0} (f : X → Y) (xs : List X) (x : X) → Contains xs x → Contains (map f xs) (f x)
 contains-map f [] x c = absurd (none x c)
 contains-map f (z ∷ xs) x c = by (which x z xs c) (contains-map f xs x)
   where
     by : (z ≡ x) ⊎ Contains xs x → (Contains xs x → Contains (map f xs) (f x)) → Contains (f z ∷ map f xs) (f x)
     by (inl e) ih = subst (λ (y : _). Contains (f z ∷ map f xs) (f y)) e (here (f z) (map f xs))
     by (inr k) ih = there (f x) (f z) (map f xs) (ih k)
+
+apart : (xs ys : List (List Move)) → AreOnce (xs ++ ys) → (h : List Move) → Contains xs h → Contains ys h → ⊥
+apart [] ys once h i j = none h i
+apart (x ∷ xs) ys once h i j = by (which h x xs i) (apart xs ys once.1 h)
+  where
+    by : (x ≡ h) ⊎ Contains xs h → (Contains xs h → Contains ys h → ⊥) → ⊥
+    by (inl e) rest = once.0 (Contains-append_right xs ys x (subst (Contains ys) (sym e) j))
+    by (inr k) rest = rest k j
 
 members-long : (d m : Merged) → length (d.members ++ m.members) ≡ length d.members + length m.members
 members-long d m = length-append d.members m.members
@@ -154,6 +162,11 @@ module _ (c : Scene) where
     members-to text e = record {
       come = λ k d lt. members-come k d lt ∙ sym e;
       among = subst (Contains m.members) is.shows is.among;
+      least = λ k d lt.
+          (let a = is.merged.long in
+          let b : length m.shows ≡ length ms = ap length is.shows in
+          let e = (is.merged.members k d lt).long in
+          omega (arith, a, b, e));
       number = is.number;
     }
 
@@ -209,91 +222,7 @@ module _ (c : Scene) (most n : ℕ) where
       subst (λ xs. SameHistories xs (histories_of (race_of c) n))
       (sym (append_assoc (all_members ds ++ ends) members pending) ∙ ap (λ xs. xs ++ pending) (append_assoc (all_members ds) ends members)) h
 
-  -- A position is come to.
-
-  module _ (s t : Search) (ms : List Move) (number : ℕ) (m : Merged) (is : StandsFor (race_of c) n ms number m) where
-    -- the histories are whole
-    pub ended : next_behind (race_of c) ms ≡ [] → (text : List ℕ) → text ≡ comes c ms → Counts text ms number s.explored.findings.items.items t.explored.findings.items.items
-        → t.explored.histories ≡ min (s.explored.histories + number) (2 ^ 64 - 1) → t.explored.events ≡ s.explored.events → t.explored.is_cut ≡ s.explored.is_cut → t.next ≡ s.next
-        → Come c most n m.members s t
-    ended none text e counts histories events cut next pending w =
-        record {
-          before = w.before;
-          ends = w.ends ++ m.members;
-          merged = w.merged;
-          has = subst (λ xs. HasFound c most xs t.explored) (append_assoc w.before w.ends m.members) (record {
-            findings = counts (comes c) (w.before ++ w.ends) m.members (members-to c n ms number m is text e) w.has.findings;
-            histories = told-both (length (w.before ++ w.ends)) (length m.members) s.explored.histories number t.explored.histories w.has.histories is.number histories
-                ∙ ap told_number (sym (length-append (w.before ++ w.ends) m.members));
-            events = (let a = w.has.events in omega (arith, a, events));
-          });
-          found = w.found;
-          whole = All-append (IsWhole (race_of c)) w.ends m.members w.whole (members-whole c n ms number m is none);
-          stand = subst (λ v. StandFor (race_of c) n v.items w.merged) (sym next) w.stand;
-          go_on = w.go_on;
-          all = same-ended w.merged w.ends pending m.members w.all;
-          uncut = cut ∙ w.uncut;
-        }
-
-    -- they are put to a class
-    pub put-to : (k : ℕ) (old new : Class) → slice_get s.next.items k ≡ Some old → new.moves ≡ old.moves → new.number ≡ min (old.number + number) (2 ^ 64 - 1)
-        → ComeToldAlike tells_of (race_of c) (shown_by old) ms → t.explored ≡ s.explored → t.next.items ≡ set s.next.items k new → Come c most n m.members s t
-    put-to k old new at moves number-is alike same next pending w =
-        let both = stand-joined c n k s.next.items w.merged old new ms number m w.stand at moves number-is is alike in
-        record {
-          before = w.before;
-          ends = w.ends;
-          merged = joined k m w.merged;
-          has = subst (HasFound c most (w.before ++ w.ends)) (sym same) w.has;
-          found = w.found;
-          whole = w.whole;
-          stand = subst (λ xs. StandFor (race_of c) n xs (joined k m w.merged)) (sym next) both.0;
-          go_on = joined-go (race_of c) k m w.merged w.go_on;
-          all = same-joined w.merged w.ends pending k m both.1 w.all;
-          uncut = ap (λ (e : Explored). e.is_cut) same ∙ w.uncut;
-        }
-
-    -- they are a class of their own
-    pub put-last : (class : Class) → shown_by class ≡ ms → class.number ≡ number → (next_behind (race_of c) ms ≡ [] → ⊥) → t.explored ≡ s.explored → t.next.items ≡ s.next.items ++ class ∷ []
-        → Come c most n m.members s t
-    put-last class moves number-is goes same next pending w =
-        let stands : StandsFor (race_of c) n (shown_by class) class.number m =
-        subst (λ ks. StandsFor (race_of c) n ks class.number m) (sym moves) (subst (λ k. StandsFor (race_of c) n ms k m) (sym number-is) is) in
-        record {
-          before = w.before;
-          ends = w.ends;
-          merged = w.merged ++ m ∷ [];
-          has = subst (HasFound c most (w.before ++ w.ends)) (sym same) w.has;
-          found = w.found;
-          whole = w.whole;
-          stand = subst (λ xs. StandFor (race_of c) n xs (w.merged ++ m ∷ [])) (sym next) (stand-push (race_of c) n s.next.items w.merged class m w.stand stands);
-          go_on = All-append (λ (d : Merged). IsEnd (race_of c) d.shows → ⊥) w.merged (m ∷ []) w.go_on
-              (All-cons (λ (d : Merged). IsEnd (race_of c) d.shows → ⊥) m [] (λ e. goes (ap (next_behind (race_of c)) (sym is.shows) ∙ e)) (All-nil (λ (d : Merged). IsEnd (race_of c) d.shows → ⊥)));
-          all = same-pushed w.merged w.ends pending m w.all;
-          uncut = ap (λ (e : Explored). e.is_cut) same ∙ w.uncut;
-        }
-
-  -- What is not looked at may change: of what was found only the events, and they rise within the limit.
-  pub come-by : (s t : Search) (pending : List (List Move)) → t.explored.findings ≡ s.explored.findings → t.explored.histories ≡ s.explored.histories → t.explored.events ≤ most
-      → t.explored.is_cut ≡ s.explored.is_cut → t.next ≡ s.next → IsWithin c most n pending s → IsWithin c most n pending t
-  come-by s t pending findings histories events cut next w = record {
-    before = w.before;
-    ends = w.ends;
-    merged = w.merged;
-    has = record {
-      findings = subst (λ (fs : _). AreFindings (comes c) (w.before ++ w.ends) fs.items.items) (sym findings) w.has.findings;
-      histories = histories ∙ w.has.histories;
-      events = events;
-    };
-    found = w.found;
-    whole = w.whole;
-    stand = subst (λ v. StandFor (race_of c) n v.items w.merged) (sym next) w.stand;
-    go_on = w.go_on;
-    all = w.all;
-    uncut = cut ∙ w.uncut;
-  }
-
-  -- The whole histories of the level are as long, so none is missing that is shorter than one that was found.
+  -- The whole histories of the level are as long.
 
   abbrev off-by : ℕ → List Move → ℕ
   off-by m h = cond (length h == m) 0 1
@@ -326,34 +255,160 @@ module _ (c : Scene) (most n : ℕ) where
       let b = sum_by-append (off-by n) (all_members w.merged) w.ends in
       as-long n w.ends (omega (arith, all, listed, a, b)) h i
 
-  pub none-shorter : (s : Search) (pending : List (List Move)) → (w : IsWithin c most n pending s) → (h k : List Move) → Contains (w.before ++ w.ends) h → IsWhole (race_of c) k → length k < length h
-      → Contains (w.before ++ w.ends) k
-  none-shorter s pending w h k i whole lt = Contains-append_left w.before w.ends k (w.found.every k whole (by (Contains-append_cases w.before w.ends h i)))
-    where
-      by : Contains w.before h ⊎ Contains w.ends h → length k < n
-      by (inl j) = (let l = (All-contains (λ (x : List Move). IsWhole (race_of c) x × (length x < n)) w.before h w.found.whole j).1 in omega (arith, lt, l))
-      by (inr j) = (let l = ends-long s pending w h j in omega (arith, lt, l))
+  -- A position is come to.
+
+  module _ (s t : Search) (ms : List Move) (number : ℕ) (m : Merged) (is : StandsFor (race_of c) n ms number m) where
+    -- none that was found is longer
+    later : (pending : List (List Move)) → (w : IsWithin c most n (m.members ++ pending) s) → AreLater (w.before ++ w.ends) m.members
+    later pending w =
+        All-append (λ (g : List Move). All (λ (k : List Move). length g ≤ length k) m.members) w.before w.ends
+        (λ i d lt j e within. (let a = (w.found.whole i d lt).1 in let b = (is.merged.members j e within).long in omega (arith, a, b)))
+        (λ i d lt j e within.
+        (let a = ends-long s (m.members ++ pending) w (get_or w.ends i d) (Contains-get_or w.ends i d lt) in
+        let b = (is.merged.members j e within).long in
+        omega (arith, a, b)))
+
+    -- the histories are whole
+    pub ended : next_behind (race_of c) ms ≡ [] → (text : List ℕ) → text ≡ comes c ms → Counts text ms number s.explored.findings.items.items t.explored.findings.items.items
+        → t.explored.histories ≡ min (s.explored.histories + number) (2 ^ 64 - 1) → t.explored.events ≡ s.explored.events → t.explored.is_cut ≡ s.explored.is_cut → t.explored.bound ≡ s.explored.bound → t.next ≡ s.next
+        → Come c most n m.members s t
+    ended none text e counts histories events cut bound next pending w =
+        record {
+          before = w.before;
+          ends = w.ends ++ m.members;
+          merged = w.merged;
+          has = subst (λ xs. HasFound c most xs t.explored) (append_assoc w.before w.ends m.members) (record {
+            findings = counts (comes c) (w.before ++ w.ends) m.members (members-to c n ms number m is text e) (later pending w) w.has.findings;
+            histories = told-both (length (w.before ++ w.ends)) (length m.members) s.explored.histories number t.explored.histories w.has.histories is.number histories
+                ∙ ap told_number (sym (length-append (w.before ++ w.ends) m.members));
+            events = (let a = w.has.events in omega (arith, a, events));
+          });
+          found = w.found;
+          whole = All-append (IsWhole (race_of c)) w.ends m.members w.whole (members-whole c n ms number m is none);
+          stand = subst (λ v. StandFor (race_of c) n v.items w.merged) (sym next) w.stand;
+          go_on = w.go_on;
+          all = same-ended w.merged w.ends pending m.members w.all;
+          uncut = cut ∙ w.uncut;
+          bound = bound ∙ w.bound;
+        }
+
+    -- they are put to a class
+    pub put-to : (k : ℕ) (old new : Class) → slice_get s.next.items k ≡ Some old → new.moves ≡ old.moves → new.number ≡ min (old.number + number) (2 ^ 64 - 1)
+        → ComeToldAlike tells_of (race_of c) (shown_by old) ms → t.explored ≡ s.explored → t.next.items ≡ set s.next.items k new → Come c most n m.members s t
+    put-to k old new at moves number-is alike same next pending w =
+        let both = stand-joined c n k s.next.items w.merged old new ms number m w.stand at moves number-is is alike in
+        record {
+          before = w.before;
+          ends = w.ends;
+          merged = joined k m w.merged;
+          has = subst (HasFound c most (w.before ++ w.ends)) (sym same) w.has;
+          found = w.found;
+          whole = w.whole;
+          stand = subst (λ xs. StandFor (race_of c) n xs (joined k m w.merged)) (sym next) both.0;
+          go_on = joined-go (race_of c) k m w.merged w.go_on;
+          all = same-joined w.merged w.ends pending k m both.1 w.all;
+          uncut = ap (λ (e : Explored). e.is_cut) same ∙ w.uncut;
+          bound = ap (λ (e : Explored). e.bound) same ∙ w.bound;
+        }
+
+    -- they are a class of their own
+    pub put-last : (class : Class) → shown_by class ≡ ms → class.number ≡ number → (next_behind (race_of c) ms ≡ [] → ⊥) → t.explored ≡ s.explored → t.next.items ≡ s.next.items ++ class ∷ []
+        → Come c most n m.members s t
+    put-last class moves number-is goes same next pending w =
+        let stands : StandsFor (race_of c) n (shown_by class) class.number m =
+        subst (λ ks. StandsFor (race_of c) n ks class.number m) (sym moves) (subst (λ k. StandsFor (race_of c) n ms k m) (sym number-is) is) in
+        record {
+          before = w.before;
+          ends = w.ends;
+          merged = w.merged ++ m ∷ [];
+          has = subst (HasFound c most (w.before ++ w.ends)) (sym same) w.has;
+          found = w.found;
+          whole = w.whole;
+          stand = subst (λ xs. StandFor (race_of c) n xs (w.merged ++ m ∷ [])) (sym next) (stand-push (race_of c) n s.next.items w.merged class m w.stand stands);
+          go_on = All-append (λ (d : Merged). IsEnd (race_of c) d.shows → ⊥) w.merged (m ∷ []) w.go_on
+              (All-cons (λ (d : Merged). IsEnd (race_of c) d.shows → ⊥) m [] (λ e. goes (ap (next_behind (race_of c)) (sym is.shows) ∙ e)) (All-nil (λ (d : Merged). IsEnd (race_of c) d.shows → ⊥)));
+          all = same-pushed w.merged w.ends pending m w.all;
+          uncut = ap (λ (e : Explored). e.is_cut) same ∙ w.uncut;
+          bound = ap (λ (e : Explored). e.bound) same ∙ w.bound;
+        }
+
+  -- What is not looked at may change: of what was found only the events, and they rise within the limit.
+  pub come-by : (s t : Search) (pending : List (List Move)) → t.explored.findings ≡ s.explored.findings → t.explored.histories ≡ s.explored.histories → t.explored.events ≤ most
+      → t.explored.is_cut ≡ s.explored.is_cut → t.explored.bound ≡ s.explored.bound → t.next ≡ s.next → IsWithin c most n pending s → IsWithin c most n pending t
+  come-by s t pending findings histories events cut bound next w = record {
+    before = w.before;
+    ends = w.ends;
+    merged = w.merged;
+    has = record {
+      findings = subst (λ (fs : _). AreFindings (comes c) (w.before ++ w.ends) fs.items.items) (sym findings) w.has.findings;
+      histories = histories ∙ w.has.histories;
+      events = events;
+    };
+    found = w.found;
+    whole = w.whole;
+    stand = subst (λ v. StandFor (race_of c) n v.items w.merged) (sym next) w.stand;
+    go_on = w.go_on;
+    all = w.all;
+    uncut = cut ∙ w.uncut;
+    bound = bound ∙ w.bound;
+  }
 
   pub same-within : (s t : Search) (pending : List (List Move)) → t.explored ≡ s.explored → t.next ≡ s.next → IsWithin c most n pending s → IsWithin c most n pending t
   same-within s t pending same next w =
       come-by s t pending (ap (λ (e : Explored). e.findings) same) (ap (λ (e : Explored). e.histories) same)
-      (let a = w.has.events in let b : t.explored.events ≡ s.explored.events = ap (λ (e : Explored). e.events) same in omega (arith, a, b)) (ap (λ (e : Explored). e.is_cut) same) next w
+      (let a = w.has.events in let b : t.explored.events ≡ s.explored.events = ap (λ (e : Explored). e.events) same in omega (arith, a, b)) (ap (λ (e : Explored). e.is_cut) same) (ap (λ (e : Explored). e.bound) same) next w
+
+  -- So none goes beyond the bound, and none is missing before it.
+  pub none-beyond : (s : Search) (pending : List (List Move)) → (w : IsWithin c most n pending s) → All (λ (h : List Move). length h ≤ s.explored.bound) (w.before ++ w.ends)
+  none-beyond s pending w =
+      All-append (λ (h : List Move). length h ≤ s.explored.bound) w.before w.ends
+      (λ i d lt. (let a = (w.found.whole i d lt).1 in let b = w.bound in omega (arith, a, b)))
+      (λ i d lt. (let a = ends-long s pending w (get_or w.ends i d) (Contains-get_or w.ends i d lt) in let b = w.bound in omega (arith, a, b)))
+
+  all-within : (s : Search) (pending : List (List Move)) → (w : IsWithin c most n pending s) → (h : List Move) → IsWhole (race_of c) h → length h < s.explored.bound
+      → Contains (w.before ++ w.ends) h
+  all-within s pending w h whole lt = Contains-append_left w.before w.ends h (w.found.every h whole (let b = w.bound in omega (arith, lt, b)))
+
+  -- From a history that is pending none of those found goes on.
+  pub left-out : (s : Search) (pending : List (List Move)) → (w : IsWithin c most n pending s) → (p : List Move) → IsHistory (replaying (race_of c)) p → length p ≡ n → Contains pending p
+      → LeavesOut (race_of c) s.explored.bound (w.before ++ w.ends)
+  left-out s pending w p history long among = record {
+    moves = p;
+    history = history;
+    long = long ∙ sym w.bound;
+    out = λ more i.
+        (let le = All-contains (λ (h : List Move). length h ≤ s.explored.bound) (w.before ++ w.ends) (more ++ p) (none-beyond s pending w) i in
+        let b = w.bound in
+        let l = length-append more p in
+        let nothing : more ≡ [] = nil_from_length more (omega (arith, le, b, l, long)) in
+        apart (w.before ++ w.ends) pending (subst AreOnce (sym (append_assoc w.before w.ends pending)) all-once) p (subst (λ xs. Contains (w.before ++ w.ends) (xs ++ p)) nothing i) among);
+  }
+    where
+      all-once : AreOnce (w.before ++ (w.ends ++ pending))
+      all-once =
+          let here-are = append-nil (all_members w.merged ++ (w.ends ++ pending)) ∙ sym (append_assoc (all_members w.merged) w.ends pending) in
+          front-once (race_of c) n w.before (all_members w.merged) (w.ends ++ pending) [] w.found (subst (λ xs. SameHistories xs (histories_of (race_of c) n)) (sym here-are) w.all)
 
   -- A limit is met.
-  cut-by : (s t : Search) (pending : List (List Move)) → t.explored ≡ record s.explored { is_cut = true } → (s.explored.events ≡ most) ⊎ IsLong c → IsWithin c most n pending s → IsOver c most t.explored
-  cut-by s t pending same why w = subst (IsOver c most) (sym same) (record {
+  cut-by : (s t : Search) (pending : List (List Move)) → t.explored ≡ record s.explored { is_cut = true } → (s.explored.events ≡ most) ⊎ IsLong c
+      → (w : IsWithin c most n pending s) → LeavesOut (race_of c) s.explored.bound (w.before ++ w.ends) → IsOver c most t.explored
+  cut-by s t pending same why w out = subst (IsOver c most) (sym same) (record {
     found = w.before ++ w.ends;
     has = record { findings = w.has.findings; histories = w.has.histories; events = w.has.events };
     whole = All-append (IsWhole (race_of c)) w.before w.ends
         (All-weaker (λ (h : List Move). IsWhole (race_of c) h × (length h < n)) (IsWhole (race_of c)) (λ h is. is.0) w.before w.found.whole) w.whole;
     once = front-once (race_of c) n w.before (all_members w.merged) w.ends pending w.found w.all;
-    shorter = none-shorter s pending w;
+    bounded = all-within s pending w;
+    within = none-beyond s pending w;
     every = λ k. absurd (false≢true (sym k));
     cut = λ k. why;
+    out = λ k. out;
   })
 
-  pub cut-off : (s t : Search) (pending : List (List Move)) → t.explored ≡ record s.explored { is_cut = true } → most ≤ s.explored.events → IsWithin c most n pending s → IsOver c most t.explored
-  cut-off s t pending same full w = cut-by s t pending same (inl (let a = w.has.events in omega (arith, a, full))) w
+  pub cut-off : (s t : Search) (pending : List (List Move)) → t.explored ≡ record s.explored { is_cut = true } → most ≤ s.explored.events
+      → (p : List Move) → IsHistory (replaying (race_of c)) p → length p ≡ n → Contains pending p → IsWithin c most n pending s → IsOver c most t.explored
+  cut-off s t pending same full p history long among w =
+      cut-by s t pending same (inl (let a = w.has.events in omega (arith, a, full))) w (left-out s pending w p history long among)
 
   -- Several histories come, one after the other.
 
@@ -376,7 +431,7 @@ module _ (c : Scene) (most n : ℕ) (s : Search) (w : IsWithin c most n [] s) wh
   merged-are (k ∷ classes) [] h = absurd h
   merged-are (k ∷ classes) (m ∷ ms) h = All-cons (IsMerged tells_of (race_of c) n) m ms h.0.merged (merged-are classes ms h.1)
 
-  is-level : IsLevel tells_of (race_of c) n w.merged w.ends
+  pub is-level : IsLevel tells_of (race_of c) n w.merged w.ends
   is-level = record {
     merged = merged-are s.next.items w.merged w.stand;
     end = All-weaker (IsWhole (race_of c)) (IsEnd (race_of c)) (λ h is. is.1) w.ends w.whole;
@@ -386,21 +441,25 @@ module _ (c : Scene) (most n : ℕ) (s : Search) (w : IsWithin c most n [] s) wh
   abbrev now-found : AreFound (race_of c) (suc n) (w.before ++ w.ends)
   now-found = (levels-of-merged-find-all tells_of (race_of c) tells-on (is-race c)).more n w.merged w.ends w.before w.found is-level w.go_on
 
-  pub level-begins : (t : Search) → t.explored ≡ s.explored → t.next.items ≡ [] → IsWithin c most (suc n) (next_members (race_of c) w.merged) t
-  level-begins t same next = record {
+  pub level-begins : (t : Search) (bound : ℕ) → bound ≡ suc n → t.explored ≡ record s.explored { bound = bound } → t.next.items ≡ []
+      → IsWithin c most (suc n) (next_members (race_of c) w.merged) t
+  level-begins t bound is same next = record {
     before = w.before ++ w.ends;
     ends = [];
     merged = [];
-    has = subst (HasFound c most ((w.before ++ w.ends) ++ [])) (sym same) (subst (λ xs. HasFound c most xs s.explored) (sym (append-nil (w.before ++ w.ends))) w.has);
+    has = subst (HasFound c most ((w.before ++ w.ends) ++ [])) (sym same)
+        (subst (λ xs. HasFound c most xs (record s.explored { bound = bound })) (sym (append-nil (w.before ++ w.ends)))
+        (record { findings = w.has.findings; histories = w.has.histories; events = w.has.events }));
     found = now-found;
     whole = All-nil (IsWhole (race_of c));
     stand = subst (λ xs. StandFor (race_of c) (suc n) xs []) (sym next) tt;
     go_on = All-nil (λ (m : Merged). IsEnd (race_of c) m.shows → ⊥);
     all = (levels-of-merged-go-on tells_of (race_of c) tells-on (is-race c)).1 n w.merged w.ends is-level;
     uncut = ap (λ (e : Explored). e.is_cut) same ∙ w.uncut;
+    bound = ap (λ (e : Explored). e.bound) same ∙ is;
   }
 
-  none-merged : (classes : List Class) (ms : List Merged) → StandFor (race_of c) n classes ms → classes ≡ [] → ms ≡ []
+  pub none-merged : (classes : List Class) (ms : List Merged) → StandFor (race_of c) n classes ms → classes ≡ [] → ms ≡ []
   none-merged [] [] h e = refl
   none-merged [] (m ∷ ms) h e = absurd h
   none-merged (k ∷ classes) ms h e = absurd (cc)
@@ -414,8 +473,10 @@ module _ (c : Scene) (most n : ℕ) (s : Search) (w : IsWithin c most n [] s) wh
         has = w.has;
         whole = All-weaker (λ (h : List Move). IsWhole (race_of c) h × (length h < suc n)) (IsWhole (race_of c)) (λ h is. is.0) (w.before ++ w.ends) now-found.whole;
         once = now-found.once;
-        shorter = none-shorter c most n s [] w;
+        bounded = all-within c most n s [] w;
+        within = none-beyond c most n s [] w;
         cut = λ k. absurd (false≢true (sym w.uncut ∙ k));
+        out = λ k. absurd (false≢true (sym w.uncut ∙ k));
         every = λ k. (levels-of-merged-find-all tells_of (race_of c) tells-on (is-race c)).all n w.ends w.before w.found level;
       }
 
@@ -430,11 +491,31 @@ long-one c n (k ∷ classes) (m ∷ ms) h go_on some is = record {
   goes_on = All-head (λ (d : Merged). IsEnd (race_of c) d.shows → ⊥) m ms go_on;
 }
 
+-- and none of those found goes on from it
+long-out : (c : Scene) (most n : ℕ) (s : Search) → (w : IsWithin c most n [] s) → (long : IsLong c) → length long.moves ≡ n → LeavesOut (race_of c) s.explored.bound (w.before ++ w.ends)
+long-out c most n s w long is = record {
+  moves = long.moves;
+  history = long.history;
+  long = is ∙ sym w.bound;
+  out = λ more i.
+      (let le = All-contains (λ (h : List Move). length h ≤ s.explored.bound) (w.before ++ w.ends) (more ++ long.moves) (none-beyond c most n s [] w) i in
+      let b = w.bound in
+      let l = length-append more long.moves in
+      let nothing : more ≡ [] = nil_from_length more (omega (arith, le, b, l, is)) in
+      long.goes_on (All-contains (IsWhole (race_of c)) (w.before ++ w.ends) long.moves all-whole (subst (λ xs. Contains (w.before ++ w.ends) (xs ++ long.moves)) nothing i)).1);
+}
+  where
+    all-whole : All (IsWhole (race_of c)) (w.before ++ w.ends)
+    all-whole =
+        All-append (IsWhole (race_of c)) w.before w.ends
+        (All-weaker (λ (h : List Move). IsWhole (race_of c) h × (length h < n)) (IsWhole (race_of c)) (λ h is. is.0) w.before w.found.whole) w.whole
+
 -- where the last level is come to it is over, cut off if a class is left
 pub over-by : (c : Scene) (most n : ℕ) (s : Search) → IsWithin c most n [] s → n ≡ STEPS_LIMIT → (cut : Bool) → (cut ≡ false → s.next.items ≡ []) → (cut ≡ true → s.next.items ≡ [] → ⊥)
     → IsOver c most (record s.explored { is_cut = cut })
 over-by c most n s w last true none some =
-    cut-by c most n s (record s { explored = record s.explored { is_cut = true } }) [] refl (inr (long-one c n s.next.items w.merged w.stand w.go_on (some refl) last)) w
+    let long = long-one c n s.next.items w.merged w.stand w.go_on (some refl) last in
+    cut-by c most n s (record s { explored = record s.explored { is_cut = true } }) [] refl (inr long) w (long-out c most n s w long (long.long ∙ sym last))
 over-by c most n s w last false none some = subst (λ (e : Explored). IsOver c most e) (λ i. record s.explored { is_cut = w.uncut i }) (search-ends c most n s w (none refl))
 
 -- The first position.
@@ -455,9 +536,9 @@ module _ (c : Scene) (most : ℕ) where
     number = refl;
   }
 
-  pub first-within : (s : Search) → s.explored.findings.items.items ≡ [] → s.explored.histories ≡ 0 → s.explored.events ≡ 0 → s.explored.is_cut ≡ false → s.next.items ≡ []
+  pub first-within : (s : Search) → s.explored.findings.items.items ≡ [] → s.explored.histories ≡ 0 → s.explored.events ≡ 0 → s.explored.is_cut ≡ false → s.explored.bound ≡ 0 → s.next.items ≡ []
       → IsWithin c most 0 ([] ∷ []) s
-  first-within s findings histories events uncut next = record {
+  first-within s findings histories events uncut bound next = record {
     before = [];
     ends = [];
     merged = [];
@@ -472,6 +553,7 @@ module _ (c : Scene) (most : ℕ) where
     go_on = All-nil (λ (m : Merged). IsEnd (race_of c) m.shows → ⊥);
     all = λ ask. refl;
     uncut = uncut;
+    bound = bound;
   }
 
 -- A list by its place.

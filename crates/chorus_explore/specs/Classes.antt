@@ -1,11 +1,12 @@
 -- Classes of histories that come to the same.
 -- c is a scenario, r is its race, classes are those of a search, ms are moves, the latest first, n is how many they are,
 -- m is a class with its members; in StandFor ms are such.
-use Rattle.std.specs.Prelude.{ℕ, ◌≡◌, List, [], ◌∷◌, length, reverse, Some, slice_get, Contains}
+use Rattle.std.specs.Prelude.{ℕ, ◌≡◌, List, [], ◌∷◌, length, reverse, sum_by, Some, slice_get, Contains}
 use Rattle.std.specs.List.{All}
 use Rattle.law_explore.specs.declared.moves.Move.{Move}
 use Rattle.law_explore.specs.Explores.{told_number}
 use Rattle.law_explore.specs.Members.{Merged, IsMerged}
+use Rattle.law_explore.specs.Positions.{next_behind}
 use Rattle.law_explore.specs.Merging.{ComeToldAlike}
 use Rattle.law_explore.specs.Search.{IsHistory}
 use Rattle.law_explore.specs.Races.{Race, replaying}
@@ -41,3 +42,7 @@ StandFor r n [] [] = Unit {0}
 StandFor r n (class ∷ classes) (m ∷ ms) =
     StandsFor r n (shown_by class) class.number m × StandFor r n classes ms
 StandFor _ _ _ _ = ⊥
+
+-- how many moves may come behind the classes
+abbrev pub moves_from : Scene → List Class → ℕ
+moves_from c classes = sum_by (λ (class : Class). length (next_behind (race_of c) (shown_by class))) classes

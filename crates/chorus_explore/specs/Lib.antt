@@ -1,6 +1,7 @@
 pub mod Stages
 pub mod Tellings
 pub mod Classes
+pub mod Events
 pub mod Searches
 pub mod Explored
 pub mod Ends

@@ -9,7 +9,7 @@ use Rattle.law_explore.specs.Explores.{told_number}
 use Rattle.law_explore.specs.Levels.{histories_of}
 use Rattle.law_explore.specs.Members.{Merged, all_members, SameHistories, IsEnd, AreFound, AreOnce}
 use Rattle.law_explore.specs.Search.{IsHistory}
-use Rattle.law_explore.specs.Races.{IsWhole, replaying}
+use Rattle.law_explore.specs.Races.{Race, IsWhole, replaying}
 use Rattle.law_replay.specs.Shown.{race_of}
 use Rattle.chorus_scene.specs.Scene.{Scene}
 use Rattle.chorus_scene.specs.declared.limits.TheConstants.{STEPS_LIMIT}
@@ -26,6 +26,13 @@ pub record HasFound (c : Scene) (most : ℕ) (found : List (List Move)) (e : Exp
   pub histories : e.histories ≡ told_number (length found)
   pub events : e.events ≤ most
 
+-- there is a history of so many moves from which none of those found goes on
+pub record LeavesOut (r : Race) (n : ℕ) (found : List (List Move)) : Type 0 where
+  pub moves : List Move
+  pub history : IsHistory (replaying r) moves
+  pub long : length moves ≡ n
+  pub out : (more : List Move) → Contains found (more ++ moves) → ⊥
+
 -- there is a history of as many moves as a schedule may have, behind which more may come
 pub record IsLong (c : Scene) : Type 0 where
   pub moves : List Move
@@ -33,17 +40,19 @@ pub record IsLong (c : Scene) : Type 0 where
   pub long : length moves ≡ STEPS_LIMIT
   pub goes_on : IsEnd (race_of c) moves → ⊥
 
--- They are whole, each stands once, and none is missing that is shorter than one of them; where no limit was met they are
--- all such. A limit is met where as many events
--- were carried out as were allowed, or where there is a history that may not be gone on from.
+-- They are whole, each stands once, and none is missing that has fewer moves than the bound, which none of them goes
+-- beyond; where no limit was met they are all such. A limit is met where as many events were carried out as were allowed,
+-- or where there is a history that may not be gone on from; then one of as many moves as the bound is left out.
 pub record IsOver (c : Scene) (most : ℕ) (e : Explored) : Type 0 where
   pub found : List (List Move)
   pub has : HasFound c most found e
   pub whole : All (IsWhole (race_of c)) found
   pub once : AreOnce found
-  pub shorter : (h k : List Move) → Contains found h → IsWhole (race_of c) k → length k < length h → Contains found k
+  pub bounded : (h : List Move) → IsWhole (race_of c) h → length h < e.bound → Contains found h
+  pub within : All (λ (h : List Move). length h ≤ e.bound) found
   pub every : e.is_cut ≡ false → (h : List Move) → IsWhole (race_of c) h → Contains found h
   pub cut : e.is_cut ≡ true → (e.events ≡ most) ⊎ IsLong c
+  pub out : e.is_cut ≡ true → LeavesOut (race_of c) e.bound found
 
 -- what the steps of a search need, and keep
 pub record IsReady (c : Scene) (s : Search) : Type 0 where
@@ -65,6 +74,7 @@ pub record IsWithin (c : Scene) (most n : ℕ) (pending : List (List Move)) (s :
   pub go_on : All (λ (m : Merged). IsEnd (race_of c) m.shows → ⊥) merged
   pub all : SameHistories (all_members merged ++ ends ++ pending) (histories_of (race_of c) n)
   pub uncut : s.explored.is_cut ≡ false
+  pub bound : s.explored.bound ≡ n
 
 -- the pending histories come
 abbrev pub Come : Scene → ℕ → ℕ → List (List Move) → Search → Search → Type 0

@@ -1,7 +1,7 @@
 -- What an exploration shows is seen in a replay.
 -- c is a scenario, most is how many events may be carried out, text is what is told, ms are moves, the latest first, f is
 -- an outcome that was found.
-use Rattle.std.specs.Prelude.{ℕ, ◌≡◌, List, reverse, None}
+use Rattle.std.specs.Prelude.{ℕ, ◌≡◌, false, List, reverse, None, Contains}
 use Rattle.std.specs.List.{All}
 use Rattle.chorus_ui.specs.Layout.{IsLayout}
 use Rattle.law_explore.specs.declared.moves.Move.{Move}
@@ -9,6 +9,7 @@ use Rattle.law_explore.specs.Races.{IsWhole}
 use Rattle.law_replay.specs.Shown.{race_of, with_schedule, IsEnded}
 use Rattle.chorus_scene.specs.Limits.{Keeps}
 use Rattle.chorus_scene.specs.Scene.{Scene}
+use Rattle.chorus_scene.specs.declared.scenario.Step.{Step}
 use Rattle.chorus_show.specs.declared.status.Status.{Status}
 use Rattle.chorus_net.specs.declared.closed.Closed.{Closed}
 use Rattle.chorus_net.specs.Closing.{IsClosed}
@@ -16,8 +17,17 @@ use Rattle.chorus_replay.specs.Order.{tasks}
 use Rattle.chorus_replay.specs.Ordered.{IsOrdered}
 use Rattle.chorus_replay.specs.Laws.{worn_clock}
 use Rattle.explore_report.specs.declared.findings.Finding.{Finding}
+use Rattle.explore_report.specs.Findings.{texts_of}
 use Rattle.chorus_explore.specs.Explored.{IsExploration}
 use Rattle.chorus_explore.specs.Stages.{comes, position}
+
+-- Whatever schedule the scenario is given, its replay, unless a clock is worn, closes the network that a whole history of
+-- its race comes to: so each replay is one of those that are gone over.
+abbrev pub ReplaysAreWhole : Type 0
+ReplaysAreWhole =
+    (c : Scene) (steps : List Step) (status : Status) (closed : Closed) → IsLayout c.layout →
+    Keeps (record c { schedule = steps }) → IsOrdered c.layout (tasks (record c { schedule = steps })) status closed →
+    worn_clock status ≡ None → (ms : List Move) × (IsWhole (race_of c) ms × IsClosed (position c ms).net closed)
 
 -- behind a history behind which nothing may come, no command and no packet is left
 abbrev pub WholeSchedulesLeaveNothing : Type 0
@@ -35,3 +45,13 @@ abbrev pub ShownSchedulesAreReplayed : Type 0
 ShownSchedulesAreReplayed =
     (c : Scene) (most : ℕ) (text : List ℕ) → IsLayout c.layout → Keeps c → (told : IsExploration c most text) →
     All (IsReplayed c) told.explored.findings.items.items
+
+-- and where no limit was met the lines of that history are among the outcomes that are told
+abbrev pub ReplaysAreTold : Type 0
+ReplaysAreTold =
+    (c : Scene) (most : ℕ) (text : List ℕ) → IsLayout c.layout → (told : IsExploration c most text) →
+    told.explored.is_cut ≡ false → (steps : List Step) (status : Status) (closed : Closed) →
+    Keeps (record c { schedule = steps }) → IsOrdered c.layout (tasks (record c { schedule = steps })) status closed →
+    worn_clock status ≡ None →
+    (ms : List Move) × (IsClosed (position c ms).net closed ×
+    Contains (texts_of told.explored.findings.items.items) (comes c ms))

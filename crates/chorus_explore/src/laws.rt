@@ -1,6 +1,6 @@
 //! The laws of what an exploration shows. They speak of the definitions alone and make no call.
 
-ghost use Rattle.chorus_explore.specs.Shown.{ShownSchedulesAreReplayed, WholeSchedulesLeaveNothing};
+ghost use Rattle.chorus_explore.specs.Shown.{ReplaysAreTold, ReplaysAreWhole, ShownSchedulesAreReplayed, WholeSchedulesLeaveNothing};
 
 /// Behind a history of a scenario behind which nothing may come, no command and no packet is left: a script that has a
 /// command left may go, and the first packet of a link may be delivered.
@@ -13,4 +13,16 @@ pub fn whole_schedules_leave_nothing()
 /// its ports.
 pub fn shown_schedules_are_replayed()
     ensures { ShownSchedulesAreReplayed }
+{}
+
+/// Whatever lines stand behind `schedule` in a scenario, its replay, unless a clock is worn, closes the network that a whole
+/// history of its race comes to: a delivery that finds nothing is left out, and all else are moves.
+pub fn replays_are_whole()
+    ensures { ReplaysAreWhole }
+{}
+
+/// So where an exploration met no limit, the lines that a replay of the text comes to, with any schedule, are those of an
+/// outcome that it tells.
+pub fn replays_are_told()
+    ensures { ReplaysAreTold }
 {}

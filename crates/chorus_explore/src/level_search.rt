@@ -1,7 +1,7 @@
 //! The search. It goes level by level: all histories of a level have as many moves, and those that come alike are one
 //! class.
 
-ghost use Rattle.std.specs.Prelude.{◌≡◌, ◌≢◌, ℕ, suc, ◌<◌, ◌^◌, List, [], true, false, reverse, Ok, IfOk, OnOk, IsErrOf, IfSome, Some};
+ghost use Rattle.std.specs.Prelude.{◌≡◌, ◌≢◌, ℕ, suc, ◌<◌, ◌^◌, List, [], length, true, false, reverse, Ok, IfOk, OnOk, IsErrOf, IfSome, Some};
 ghost use Rattle.chorus_place.specs.declared.fault.PlaceFault.TheVariants as PlaceFault;
 ghost use Rattle.law_explore.specs.Members.{Merged, going_by, going_on, next_members};
 ghost use Rattle.law_explore.specs.Merging.{ComeToldAlike};
@@ -10,7 +10,8 @@ ghost use Rattle.law_explore.specs.Search.{IsHistory};
 ghost use Rattle.law_explore.specs.Races.{replaying};
 ghost use Rattle.law_replay.specs.Shown.{race_of};
 ghost use Rattle.chorus_scene.specs.Scene.{Scene};
-ghost use Rattle.chorus_explore.specs.Classes.{AreClasses, IsClassOf, StandFor, StandsFor, shown_by};
+ghost use Rattle.chorus_explore.specs.Classes.{AreClasses, IsClassOf, StandFor, StandsFor, moves_from, shown_by};
+ghost use Rattle.chorus_explore.specs.Events.{Carries, CarriesOut, SameEvents};
 ghost use Rattle.chorus_explore.specs.Searches.{Come, GoOn, IsOver, IsReady, IsWithin, LeadsThere};
 ghost use Rattle.chorus_explore.specs.Stages.{AreFresh, AreSpare, IsReached, IsReachedIf, MayWear, may_go, moves_of};
 ghost use Rattle.chorus_explore.specs.Tellings.{tells_of};
@@ -51,15 +52,17 @@ struct Search {
 pub(crate) fn go_over(alloc: Global, scenario: &Scenario, most: u64) -> Result<Explored, PlaceFault>
     requires { most < 2 ^ 32 }
     ensures over { IfOk result (λ explored. IsOver scenario.now most explored) }
+    ensures carried { IfOk result (λ explored. CarriesOut (race_of scenario.now) explored) }
     ensures worn { (clock : ℕ) → IsErrOf result (PlaceFault.Worn clock) →
         MayWear scenario.now clock }
 {
     let mut search = Search::begin(alloc, scenario)?;
-    for _length in 0..STEPS_LIMIT {
+    for length in 0..STEPS_LIMIT {
         let level = mem::replace(&mut search.next, Vec::new(alloc));
         if level.is_empty() {
             return Ok(search.explored);
         }
+        search.explored.bound = length + 1;
         if !search.go_on(alloc, scenario, &level, most)? {
             return Ok(search.explored);
         }
@@ -74,6 +77,7 @@ impl Search {
         ensures ready { IfOk result (λ search. IsReady scenario.now search) }
         ensures begun { IfOk result (λ search.
             (most : ℕ) → IsWithin scenario.now most 0 [] search) }
+        ensures none { IfOk result (λ search. search.explored.events ≡ 0) }
         ensures worn { (clock : ℕ) → IsErrOf result (PlaceFault.Worn clock) →
             MayWear scenario.now clock }
     {
@@ -83,6 +87,7 @@ impl Search {
                 histories: 0,
                 events: 0,
                 is_cut: false,
+                bound: 0,
             },
             next: Vec::new(alloc),
             last: None,
@@ -109,6 +114,8 @@ impl Search {
             StandFor (race_of scenario.now) n level.now ms →
             GoOn scenario.now most (suc n) (next_members (race_of scenario.now) ms)
             result self.old self.new }
+        ensures carries { Carries (moves_from scenario.now level.now) result
+            self.old.explored self.new.explored }
         ensures worn { (clock : ℕ) → IsErrOf result (PlaceFault.Worn clock) →
             MayWear scenario.now clock }
     {
@@ -142,6 +149,8 @@ impl Search {
             GoOn scenario.now most (suc n)
             (going_on (next_behind (race_of scenario.now) (shown_by class.now)) m.members)
             result self.old self.new }
+        ensures carries { Carries (length (next_behind (race_of scenario.now) (shown_by class.now))) result
+            self.old.explored self.new.explored }
         ensures worn { (clock : ℕ) → IsErrOf result (PlaceFault.Worn clock) →
             MayWear scenario.now clock }
     {
@@ -177,6 +186,7 @@ impl Search {
         ensures go_on { (n : ℕ) (m : Merged) →
             StandsFor (race_of scenario.now) n (shown_by class.now) class.now.number m →
             GoOn scenario.now most (suc n) (going_by mv m.members) result self.old self.new }
+        ensures carries { Carries 1 result self.old.explored self.new.explored }
         ensures worn { (clock : ℕ) → IsErrOf result (PlaceFault.Worn clock) →
             MayWear scenario.now clock }
     {
@@ -230,6 +240,7 @@ impl Search {
         ensures come { OnOk result ((most n : ℕ) (m : Merged) →
             StandsFor (race_of scenario.now) n (moves_of stage) number m →
             Come scenario.now most n m.members self.old self.new) }
+        ensures events { OnOk result (SameEvents self.old.explored self.new.explored) }
         ensures worn { (clock : ℕ) → IsErrOf result (PlaceFault.Worn clock) →
             MayWear scenario.now clock }
     {
@@ -256,6 +267,7 @@ impl Search {
         ensures come { OnOk result ((most n : ℕ) (m : Merged) →
             StandsFor (race_of scenario.now) n (moves_of stage) number m →
             Come scenario.now most n m.members self.old self.new) }
+        ensures events { OnOk result (SameEvents self.old.explored self.new.explored) }
     {
         let moves = Vec::from_slice(alloc, &stage.moves)?;
         let (text, sites) = stage.outcome(alloc)?;
@@ -281,6 +293,7 @@ impl Search {
         ensures come { OnOk result ((most n : ℕ) (m : Merged) →
             StandsFor (race_of scenario.now) n (moves_of stage) number m →
             Come scenario.now most n m.members self.old self.new) }
+        ensures events { OnOk result (SameEvents self.old.explored self.new.explored) }
         ensures worn { (clock : ℕ) → IsErrOf result (PlaceFault.Worn clock) →
             MayWear scenario.now clock }
     {

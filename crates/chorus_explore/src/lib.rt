@@ -20,4 +20,7 @@ mod sums;
 
 pub use exploration::{ExploreFault, explore_scenario};
 pub use exploring::explore;
-pub use laws::{shown_schedules_are_replayed, whole_schedules_leave_nothing};
+pub use laws::{
+    replays_are_told, replays_are_whole, shown_schedules_are_replayed,
+    whole_schedules_leave_nothing,
+};

@@ -8,7 +8,7 @@ use Rattle.std.proofs.lemmas.Bool.{cases_eq, cases_lt}
 use Rattle.law_explore.specs.declared.moves.Move.{Move}
 use Rattle.law_explore.specs.Explores.{Count, IsCounted, told_number}
 use Rattle.explore_report.specs.declared.findings.Finding.{Finding}
-use Rattle.explore_report.specs.Findings.{AreFindings, ComeTo, texts_of}
+use Rattle.explore_report.specs.Findings.{AreFindings, AreLater, ComeTo, texts_of}
 
 -- Counts.
 
@@ -67,7 +67,7 @@ same-texts [] i g e = refl
 same-texts (f ∷ fs) zero g e = ap (λ t. t ∷ texts_of fs) e
 same-texts (f ∷ fs) (suc i) g e = ap (λ ts. f.text.items ∷ ts) (same-texts fs i g e)
 
-module _ (comes : List Move → List ℕ) (hs ks : List (List Move)) (fs : List Finding) (h : List Move) (t : List ℕ) (number : ℕ) (is : ComeTo comes t h number ks) (f : AreFindings comes hs fs) where
+module _ (comes : List Move → List ℕ) (hs ks : List (List Move)) (fs : List Finding) (h : List Move) (t : List ℕ) (number : ℕ) (is : ComeTo comes t h number ks) (later : AreLater hs ks) (f : AreFindings comes hs fs) where
   abbrev Shown : List (List Move) → Finding → Type 0
   Shown xs g = Contains xs (reverse g.moves.items) × (comes (reverse g.moves.items) ≡ g.text.items)
 
@@ -89,6 +89,19 @@ module _ (comes : List Move → List ℕ) (hs ks : List (List Move)) (fs : List 
   counted-on g c ne =
       counted-other comes g.text.items hs ks g.histories c
       (All-weaker (λ (k : List Move). comes k ≡ t) (λ (k : List Move). comes k ≢ g.text.items) (λ k e q. ne (sym q ∙ e)) ks is.come)
+
+  abbrev NoneShorter : Finding → List Move → Type 0
+  NoneShorter g k = comes k ≡ g.text.items → length (reverse g.moves.items) ≤ length k
+
+  abbrev First : List (List Move) → Finding → Type 0
+  First xs g = All (NoneShorter g) xs
+
+  first-on : All (First (hs ++ ks)) fs
+  first-on j d lt =
+      let g = get_or fs j d in
+      All-append (NoneShorter g) hs ks (f.first j d lt)
+      (All-weaker (λ (k : List Move). length (reverse g.moves.items) ≤ length k) (NoneShorter g) (λ k le e. le) ks
+      (All-contains (λ (x : List Move). All (λ (k : List Move). length x ≤ length k) ks) hs (reverse g.moves.items) later (f.shown j d lt).0))
 
   within : (k : ℕ) → k < length fs → k < length (texts_of fs)
   within k lt = (let n = length-map fs (λ (z : Finding). z.text.items) in omega (arith, n, lt))
@@ -135,6 +148,7 @@ module _ (comes : List Move → List ℕ) (hs ks : List (List Move)) (fs : List 
       found = subst (λ (ts : List (List ℕ)). All (Comes ts) (hs ++ ks)) (sym texts-are)
           (found-on (texts_of fs) (subst (Contains (texts_of fs)) here (Contains-get_or (texts_of fs) i t (within i lt))) f.found);
       counted = all-counted;
+      first = All-set (First (hs ++ ks)) fs i new (subst (First (hs ++ ks)) (stands old) (first-on i old lt)) first-on;
     }
 
   -- a new one
@@ -155,6 +169,12 @@ module _ (comes : List Move → List ℕ) (hs ks : List (List Move)) (fs : List 
         subst (λ (o : List ℕ). IsCounted comes o (hs ++ ks) new.histories) (sym text)
         (counted-all comes t hs ks 0 number new.histories (counted-none comes t hs none-comes) is.come is.number is-first)
 
+    this-first : First (hs ++ ks) new
+    this-first =
+        All-append (NoneShorter new) hs ks
+        (All-weaker (λ (g : List Move). comes g ≢ t) (NoneShorter new) (λ g ne e. absurd (ne (e ∙ text))) hs none-comes)
+        (All-weaker (λ (k : List Move). length h ≤ length k) (NoneShorter new) (λ k le e. subst (λ (x : List Move). length x ≤ length k) (sym moves) le) ks is.least)
+
     texts-with-it : texts_of (fs ++ new ∷ []) ≡ texts_of fs ++ t ∷ []
     texts-with-it = map-append (λ (g : Finding). g.text.items) fs (new ∷ []) ∙ ap (λ z. texts_of fs ++ z ∷ []) text
 
@@ -171,4 +191,5 @@ module _ (comes : List Move → List ℕ) (hs ks : List (List Move)) (fs : List 
           (All-weaker (Comes (texts_of fs)) (Comes (texts_of fs ++ t ∷ [])) (λ g c. Contains-append_left (texts_of fs) (t ∷ []) (comes g) c) hs f.found));
       counted = All-push (Counted (hs ++ ks)) fs new
           (λ k d l. counted-on (get_or fs k d) (f.counted k d l) (none k d l)) this-counted;
+      first = All-push (First (hs ++ ks)) fs new first-on this-first;
     }

@@ -117,13 +117,14 @@ schedules_from n few told [] = []
 schedules_from n few told (f ∷ fs) =
     schedule_text n (is_shown n few told) f.moves.items ++ schedules_from (n + 1) few told fs
 
-abbrev pub limit_line : Bool → List ℕ
-limit_line is_cut = (if is_cut then codes "some" else codes "all") ++ 10 ∷ []
+-- all whole histories were counted, or all that have fewer moves than the bound
+abbrev pub limit_line : Bool → ℕ → List ℕ
+limit_line is_cut bound = if is_cut then count_line (codes "some") bound else codes "all" ++ 10 ∷ []
 
 abbrev pub report_text : Explored → List ℕ
 report_text e =
     let fs = e.findings.items.items in
-    count_line (codes "histories") e.histories ++ count_line (codes "events") e.events ++ limit_line e.is_cut
+    count_line (codes "histories") e.histories ++ count_line (codes "events") e.events ++ limit_line e.is_cut e.bound
     ++ facts_text (facts_of fs) ++ outcomes_text fs ++ schedules_from 1 (are_few fs) (facts_of fs) fs
     ++ codes "end" ++ 10 ∷ []
 

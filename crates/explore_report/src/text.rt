@@ -32,7 +32,7 @@ pub fn report(alloc: Global, explored: &Explored) -> Result<Vec<u8>, AllocError>
     let mut text = Vec::new(alloc);
     push_count("histories", explored.histories, &mut text)?;
     push_count("events", explored.events, &mut text)?;
-    push_limit(explored.is_cut, &mut text)?;
+    push_limit(explored.is_cut, explored.bound as u64, &mut text)?;
     push_facts(&facts, &mut text)?;
     push_outcomes(items, is_few, &mut text)?;
     push_schedules(items, is_few, &facts, &mut text)?;
@@ -279,12 +279,12 @@ fn push_step(mv: Move, text: &mut Vec<u8>) -> Result<(), AllocError>
     }
 }
 
-/// Appends the report's line that tells whether a limit was met.
-fn push_limit(is_cut: bool, text: &mut Vec<u8>) -> Result<(), AllocError>
-    ensures { OnOk result (text.new.items ≡ text.old.items ++ limit_line is_cut) }
+/// Appends the report's line that tells whether a limit was met, and if one was, of how many moves no history is missing.
+fn push_limit(is_cut: bool, bound: u64, text: &mut Vec<u8>) -> Result<(), AllocError>
+    ensures { OnOk result (text.new.items ≡ text.old.items ++ limit_line is_cut bound) }
 {
     if is_cut {
-        text.extend_from_slice(b"some\n")
+        push_count("some", bound, text)
     } else {
         text.extend_from_slice(b"all\n")
     }

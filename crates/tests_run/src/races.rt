@@ -254,7 +254,7 @@ end
 const MOVES_WITH_FIFTY_EVENTS: &str = "\
 histories 33
 events 50
-some
+some 8
 facts 10
 1 answer 1 1 post 1:1:0 port 1.p.1 plain =a
 1 answer 1 2 depart 1.p.1 2 2.a.1
@@ -308,9 +308,9 @@ deliver 2 1
 end
 ";
 
-const MOVES_WITH_TEN_EVENTS: &str = "histories 0\nevents 10\nsome\nfacts 0\noutcomes 0\nend\n";
+const MOVES_WITH_TEN_EVENTS: &str = "histories 0\nevents 10\nsome 3\nfacts 0\noutcomes 0\nend\n";
 
-const MOVES_WITH_NONE: &str = "histories 0\nevents 0\nsome\nfacts 0\noutcomes 0\nend\n";
+const MOVES_WITH_NONE: &str = "histories 0\nevents 0\nsome 1\nfacts 0\noutcomes 0\nend\n";
 
 const NOTHING: &str = "chorus 1\nsites 1\nschedule\nend\n";
 
@@ -347,7 +347,7 @@ fn races_are_told_whole(rt: HostRuntime) {
 #[test]
 fn a_limit_that_suffices_is_not_met(rt: HostRuntime) {
     let alloc = rt.alloc();
-    for (most, limit) in [(54, "\nall\n"), (53, "\nsome\n")] {
+    for (most, limit) in [(54, "\nall\n"), (53, "\nsome 8\n")] {
         let text = told(&rt, alloc, most, MOVES);
         assert_same(&rt, text.as_str().contains(limit), true, limit);
     }

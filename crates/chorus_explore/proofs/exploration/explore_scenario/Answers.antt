@@ -2,7 +2,7 @@ use Rattle.std.proofs.Common.{ℕ, ◌≡◌, ◌⊎◌, subst, arith}
 use Rattle.law_replay.specs.Shown.{race_of}
 use Rattle.chorus_explore.specs.Searches.{IsLong}
 use Rattle.chorus_explore.specs.Stages.{comes}
-use Rattle.chorus_explore.proofs.Explaining.{explains-some, explains-all}
+use Rattle.chorus_explore.proofs.Explaining.{explains-some, explains-all, shows-shortest}
 use Rattle.chorus_explore.proofs.exploration.explore_scenario.Goals as goal
 
 pub returns-in-Ok-report-clause-explored : goal.returns-in-Ok-report-clause-explored
@@ -17,9 +17,11 @@ returns-in-Ok-report-clause-explored c =
       is = c.in-Ok-report.ensures;
       histories = over.found;
       count = over.has.histories;
-      events = (let m = over.has.events in let f = c.from.ensures in omega (arith, m, f));
-      cut = λ k. subst (λ (n : ℕ). (c.in-Ok.explored.events ≡ n) ⊎ IsLong c.args.scenario.now) c.from.ensures (over.cut k);
-      shorter = over.shorter;
+      events = (let m = over.has.events in let f = c.from.ensures in omega (arith, m, f), c.in-Ok.ensures.carried);
+      cut = λ k. (over.out k, subst (λ (n : ℕ). (c.in-Ok.explored.events ≡ n) ⊎ IsLong c.args.scenario.now) c.from.ensures (over.cut k));
+      bounded = over.bounded;
+      within = over.within;
+      shortest = shows-shortest r (comes scene) e.bound over.found over.bounded over.within fs over.has.findings;
       some = explains-some r (comes scene) over.found fs over.whole over.once over.has.findings;
       all = λ k. explains-all r (comes scene) over.found fs over.whole over.once (over.every k) over.has.findings;
     }

@@ -1,7 +1,9 @@
 use Rattle.std.proofs.Common.{[]}
+use Rattle.law_replay.specs.Shown.{race_of}
 use Rattle.chorus_explore.specs.Searches.{IsReady, IsWithin}
+use Rattle.chorus_explore.proofs.Carrying.{HasCarried}
 use Rattle.chorus_explore.proofs.level_search.go_over.Given as goal
 
 -- all of the level is come to
 abbrev pub invariant-loop-length : goal.invariant-loop-length
-invariant-loop-length l = IsReady l.scenario l.search × IsWithin l.scenario l.most l._length [] l.search
+invariant-loop-length l = IsReady l.scenario l.search × IsWithin l.scenario l.most l.length [] l.search × HasCarried (race_of l.scenario) l.length l.search.explored

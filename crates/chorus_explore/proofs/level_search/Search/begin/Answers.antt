@@ -8,7 +8,7 @@ use Rattle.chorus_explore.proofs.level_search.Search.begin.Goals as goal
 pub returns-clause-begun : goal.returns-clause-begun
 returns-clause-begun c = λ most.
     let scene = c.args.scenario.now in
-    let s : Search = record { explored = record { findings = c.new.result; histories = 0; events = 0; is_cut = false }; next = c.new-2.result; last = None; spare = c.new-3.result } in
+    let s : Search = record { explored = record { findings = c.new.result; histories = 0; events = 0; is_cut = false; bound = 0 }; next = c.new-2.result; last = None; spare = c.new-3.result } in
     let path = sym (ap reverse c.in_ok-stage.ensures.ok.1) in
     c.in_ok-come_to.ensures.come most 0 (root scene most) (subst (λ h. StandsFor (race_of scene) 0 h 1 (root scene most)) path (root-stands scene most)) []
-    (first-within scene most s c.new.ensures refl refl refl c.new-2.ensures.items)
+    (first-within scene most s c.new.ensures refl refl refl refl c.new-2.ensures.items)

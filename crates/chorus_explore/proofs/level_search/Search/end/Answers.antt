@@ -24,4 +24,4 @@ returns-clause-come c = λ most n m is.
     let moves = c.deref-2.ensures.value ∙ c.in_ok-moves.ensures.items ∙ c.deref.ensures.value in
     ended scene most n c.args.self.now _ (moves_of c.args.stage) c.args.number m is c.requires.end c.in_ok-text.text.items (c.in_ok-text.ensures.text scene c.requires.reached)
     (subst (λ xs. Counts c.in_ok-text.text.items (reverse xs) c.args.number c.args.self.now.explored.findings.items.items c.add.new.self.items.items) moves c.in_ok-add.ensures.counts)
-    c.saturating_add-self.ensures refl refl refl
+    c.saturating_add-self.ensures refl refl refl refl

@@ -1,5 +1,6 @@
 use Rattle.std.proofs.Common.{suc, ◌≡◌, ◌+◌, ◌++◌, ◌∷◌, [], true, reverse, refl, sym, ◌∙◌, ap, subst, arith}
 use Rattle.std.proofs.lemmas.List.{reverse-append}
+use Rattle.std.proofs.lemmas.List.Elements.{Contains-append_left}
 use Rattle.law_explore.specs.Members.{going_by, with_move}
 use Rattle.law_explore.proofs.Exploring.{lists-next}
 use Rattle.law_replay.specs.Shown.{race_of}
@@ -13,9 +14,27 @@ use Rattle.chorus_explore.proofs.level_search.Search.go_by.Goals as goal
 pub returns-then-self-most-clause-go_on : goal.returns-then-self-most-clause-go_on
 returns-then-self-most-clause-go_on c = λ n m is.
     let s = c.args.self.now in
+    let scene = c.args.scenario.now in
+    let ms = shown_by c.args.class.now in
+    let mv = c.args.mv in
+    let listed = (lists-next (race_of scene) (position scene ms) mv).0 c.requires.may in
+    let on = stands-on scene n ms c.args.class.now.number m mv is listed in
     record {
       come = λ e. absurd (cc);
-      cut = λ e pending. cut-off c.args.scenario.now c.args.most (suc n) s (record s { explored = record s.explored { is_cut = true } }) (going_by c.args.mv m.members ++ pending) refl c.if-self-most.true;
+      cut = λ e pending. cut-off scene c.args.most (suc n) s (record s { explored = record s.explored { is_cut = true } }) (going_by mv m.members ++ pending) refl c.if-self-most.true
+          (mv ∷ m.shows) on.merged.history on.merged.long (Contains-append_left (going_by mv m.members) pending (mv ∷ m.shows) on.among);
+    }
+
+pub returns-then-self-most-clause-carries : goal.returns-then-self-most-clause-carries
+returns-then-self-most-clause-carries c = record { all = λ e. absurd (cc); some = λ e. (refl, refl, omega arith, omega arith) }
+
+pub returns-clause-carries : goal.returns-clause-carries
+returns-clause-carries c =
+    let same = c.in_ok-come_to.ensures.events in
+    let kept = c.stage_there.ensures.kept.0 in
+    record {
+      all = λ e. (same.0 ∙ ap (λ (x : Explored). x.events + 1) kept, same.1 ∙ ap (λ (x : Explored). x.bound) kept);
+      some = λ e. absurd (cc);
     }
 
 pub returns-clause-go_on : goal.returns-clause-go_on
@@ -37,6 +56,6 @@ returns-clause-go_on c = λ n m is.
       come = λ yes pending w. c.in_ok-come_to.ensures.come c.args.most (suc n) (with_move mv m)
           (subst (λ k. StandsFor (race_of scene) (suc n) k c.args.class.now.number (with_move mv m)) (sym path) on) pending
           (come-by scene c.args.most (suc n) c.args.self.now t (going_by mv m.members ++ pending) (ap (λ (x : Explored). x.findings) kept.0) (ap (λ (x : Explored). x.histories) kept.0)
-          (omega (arith, events, below)) (ap (λ (x : Explored). x.is_cut) kept.0) kept.1 w);
+          (omega (arith, events, below)) (ap (λ (x : Explored). x.is_cut) kept.0) (ap (λ (x : Explored). x.bound) kept.0) kept.1 w);
       cut = λ no_. absurd (cc);
     }

@@ -4,8 +4,11 @@ use Rattle.law_replay.specs.Shown.{race_of}
 use Rattle.law_explore.specs.Members.{Merged, going_on, next_members}
 use Rattle.std.proofs.Common.{◌≡◌, ◌++◌, subst, ◌∙◌, ap}
 use Rattle.law_explore.specs.Positions.{next_behind}
+use Rattle.chorus_explore.specs.declared.level_search.Class.{Class}
 use Rattle.chorus_explore.specs.declared.level_search.Search.{Search}
+use Rattle.chorus_explore.specs.Classes.{shown_by}
 use Rattle.chorus_explore.specs.Searches.{Come}
+use Rattle.chorus_explore.proofs.Carrying.{sum-all, sum-more, sum-within}
 use Rattle.chorus_explore.proofs.Searching.{as-many-stand, class-come, class-cut, flat-all, same-within, stand-at}
 use Rattle.chorus_explore.proofs.level_search.Search.go_on.Goals as goal
 
@@ -40,6 +43,13 @@ loop-index-preserved c =
           let yes : c.go_on_from.result ≡ Ok true = c.in_ok-go_on_from.was ∙ ap (λ b. Ok b) (grind (arith, c.if-not-branch.false)) in
           class-come scene c.args.most n level ms stand i class at (record c.args.self.now { last = c.take-last.new.self }) c.loop-index.self c.go_on_from.new.self (c.loop-index.invariant.2 n ms stand)
           ((c.go_on_from.ensures.go_on n one.0 one.1.1).come yes)),
+      (let yes : c.go_on_from.result ≡ Ok true = c.in_ok-go_on_from.was ∙ ap (λ b. Ok b) (grind (arith, c.if-not-branch.false)) in
+          let all = (c.go_on_from.ensures.carries.all yes).0 in
+          let was = c.loop-index.invariant.3 in
+          let more = sum-more (λ (k : Class). length (next_behind (race_of scene) (shown_by k))) level i class at in
+          omega (arith, all, was, more)),
+      (let yes : c.go_on_from.result ≡ Ok true = c.in_ok-go_on_from.was ∙ ap (λ b. Ok b) (grind (arith, c.if-not-branch.false)) in
+          (c.go_on_from.ensures.carries.all yes).1 ∙ c.loop-index.invariant.4),
     )
 
 pub returns-clause-go_on : goal.returns-clause-go_on
@@ -53,4 +63,29 @@ returns-clause-go_on c = λ n ms stand.
       come = λ e pending w. subst (λ hs. Come scene c.args.most (suc n) hs s c.loop-index.self) passed (c.loop-index.invariant.2 n ms stand) pending
           (same-within scene c.args.most (suc n) c.args.self.now s (next_members (race_of scene) ms ++ pending) refl refl w);
       cut = λ e. absurd (cc);
+    }
+
+pub returns-then-not-branch-clause-carries : goal.returns-then-not-branch-clause-carries
+returns-then-not-branch-clause-carries c =
+    let level = c.args.level.now in
+    let i = c.loop-index.index in
+    let class = c.index-level-index.result in
+    let at = slice_get_read level (length level) i class refl c.loop-index-test.true c.index-level-index.is in
+    let no_ : c.go_on_from.result ≡ Ok false = c.in_ok-go_on_from.was ∙ ap (λ b. Ok b) (grind (arith, c.if-not-branch.true)) in
+    let some = c.go_on_from.ensures.carries.some no_ in
+    let was = c.loop-index.invariant.3 in
+    let within = sum-within (λ (k : Class). length (next_behind (race_of c.args.scenario.now) (shown_by k))) level i class at in
+    record {
+      all = λ e. absurd (cc);
+      some = λ e. (some.0, some.1 ∙ c.loop-index.invariant.4, (let p = some.2 in omega (arith, p, was)), (let p = some.3 in omega (arith, p, was, within)));
+    }
+
+pub returns-clause-carries : goal.returns-clause-carries
+returns-clause-carries c =
+    let level = c.args.level.now in
+    let passed = sum-all (λ (k : Class). length (next_behind (race_of c.args.scenario.now) (shown_by k))) level c.loop-index.index (let e = c.loop-index-test.false in omega (arith, e)) in
+    let was = c.loop-index.invariant.3 in
+    record {
+      all = λ e. (omega (arith, was, passed), c.loop-index.invariant.4);
+      some = λ e. absurd (cc);
     }

@@ -1,7 +1,7 @@
-use Rattle.std.proofs.Common.{ℕ, suc, List, take}
+use Rattle.std.proofs.Common.{ℕ, suc, ◌≡◌, ◌+◌, List, take}
 use Rattle.law_explore.specs.Members.{Merged, next_members}
 use Rattle.law_replay.specs.Shown.{race_of}
-use Rattle.chorus_explore.specs.Classes.{StandFor}
+use Rattle.chorus_explore.specs.Classes.{StandFor, moves_from}
 use Rattle.chorus_explore.specs.Searches.{Come, IsReady}
 use Rattle.chorus_explore.specs.Stages.{IsReachedIf}
 use Rattle.chorus_explore.proofs.level_search.Search.go_on.Given as goal
@@ -10,3 +10,4 @@ use Rattle.chorus_explore.proofs.level_search.Search.go_on.Given as goal
 abbrev pub invariant-loop-index : goal.invariant-loop-index
 invariant-loop-index l = IsReady l.scenario l.self × IsReachedIf l.scenario l.last
     × ((n : ℕ) (ms : List Merged) → StandFor (race_of l.scenario) n l.level ms → Come l.scenario l.most (suc n) (next_members (race_of l.scenario) (take l.index ms)) l.initial.self l.self)
+    × (l.self.explored.events ≡ l.initial.self.explored.events + moves_from l.scenario (take l.index l.level)) × (l.self.explored.bound ≡ l.initial.self.explored.bound)

@@ -5,6 +5,7 @@ use Rattle.law_explore.specs.Members.{going_by, going_on}
 use Rattle.law_explore.specs.Positions.{next_behind}
 use Rattle.law_explore.proofs.Exploring.{lists-next}
 use Rattle.law_replay.specs.Shown.{race_of}
+use Rattle.explore_report.specs.declared.explored.Explored.{Explored}
 use Rattle.chorus_explore.specs.Classes.{shown_by}
 use Rattle.chorus_explore.specs.Searches.{Come, IsWithin, LeadsThere}
 use Rattle.chorus_explore.specs.Stages.{position}
@@ -57,6 +58,8 @@ loop-index-preserved c =
       λ n m is.
           move-come scene c.args.most (suc n) moves m.members i mv at c.stage_there.new.self c.loop-index.self c.go_by.new.self (c.loop-index.invariant.2 n m is)
           ((c.go_by.ensures.go_on n m is).come yes),
+      (let all = (c.go_by.ensures.carries.all yes).0 in let was = c.loop-index.invariant.3 in omega (arith, all, was)),
+      (c.go_by.ensures.carries.all yes).1 ∙ c.loop-index.invariant.4,
     )
 
 pub returns-clause-go_on : goal.returns-clause-go_on
@@ -73,4 +76,35 @@ returns-clause-go_on c = λ n m is.
           subst (λ hs. Come scene c.args.most (suc n) hs s c.loop-index.self) (passed ∙ ap (λ xs. going_on xs m.members) listed) (c.loop-index.invariant.2 n m is) pending
           (same-within scene c.args.most (suc n) c.args.self.now s (going_on (next_behind (race_of scene) (shown_by c.args.class.now)) m.members ++ pending) same.0 same.1 w);
       cut = λ e. absurd (cc);
+    }
+
+pub returns-then-not-branch-clause-carries : goal.returns-then-not-branch-clause-carries
+returns-then-not-branch-clause-carries c =
+    let there = c.in_ok-stage.ensures.there in
+    let long = ap length (c.in_ok-moves.ensures.items ∙ ap (λ xs. next_behind (race_of c.args.scenario.now) (reverse xs)) (there.1 ∙ c.deref-2.ensures.value)) in
+    let no_ : c.go_by.result ≡ Ok false = c.in_ok-go_by.was ∙ ap (λ b. Ok b) (grind (arith, c.if-not-branch.true)) in
+    let some = c.go_by.ensures.carries.some no_ in
+    let same = c.stage_there.ensures.kept.0 in
+    let events : c.stage_there.new.self.explored.events ≡ c.args.self.now.explored.events = ap (λ (x : Explored). x.events) same in
+    let was = c.loop-index.invariant.3 in
+    let a = c.loop-index-test.true in
+    let b = c.len-index-end.ensures in
+    record {
+      all = λ e. absurd (cc);
+      some = λ e. (some.0, some.1 ∙ c.loop-index.invariant.4 ∙ ap (λ (x : Explored). x.bound) same, (let p = some.2 in omega (arith, p, was, events)), (let p = some.3 in omega (arith, p, was, events, a, b, long)));
+    }
+
+pub returns-clause-carries : goal.returns-clause-carries
+returns-clause-carries c =
+    let there = c.in_ok-stage.ensures.there in
+    let long = ap length (c.in_ok-moves.ensures.items ∙ ap (λ xs. next_behind (race_of c.args.scenario.now) (reverse xs)) (there.1 ∙ c.deref-2.ensures.value)) in
+    let same = c.stage_there.ensures.kept.0 in
+    let events : c.stage_there.new.self.explored.events ≡ c.args.self.now.explored.events = ap (λ (x : Explored). x.events) same in
+    let was = c.loop-index.invariant.3 in
+    let a = c.loop-index-test.false in
+    let b = c.len-index-end.ensures in
+    let d = c.loop-index.auto.index-end in
+    record {
+      all = λ e. (omega (arith, was, events, a, b, d, long), c.loop-index.invariant.4 ∙ ap (λ (x : Explored). x.bound) same);
+      some = λ e. absurd (cc);
     }

@@ -1,4 +1,4 @@
-use Rattle.std.proofs.Common.{ℕ, suc, take}
+use Rattle.std.proofs.Common.{ℕ, suc, ◌≡◌, ◌+◌, take}
 use Rattle.law_explore.specs.Members.{Merged, going_on}
 use Rattle.law_replay.specs.Shown.{race_of}
 use Rattle.chorus_explore.specs.Classes.{StandsFor, shown_by}
@@ -10,3 +10,4 @@ abbrev pub invariant-loop-index : goal.invariant-loop-index
 invariant-loop-index l = IsReady l.scenario l.self × LeadsThere l.scenario l.class.moves.items l.kept
     × ((n : ℕ) (m : Merged) → StandsFor (race_of l.scenario) n (shown_by l.class) l.class.number m
     → Come l.scenario l.most (suc n) (going_on (take l.index l.moves.items) m.members) l.initial.self l.self)
+    × (l.self.explored.events ≡ l.initial.self.explored.events + l.index) × (l.self.explored.bound ≡ l.initial.self.explored.bound)

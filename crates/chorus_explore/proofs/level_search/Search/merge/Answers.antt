@@ -90,3 +90,8 @@ returns-clause-come c = λ most n m is.
           put-last scene most n c.args.self.now t (moves_of c.args.stage) c.args.number m is class shown refl c.requires.goes_on (kept.0 ∙ same-explored c)
           (ap (λ v. v.items) kept.1 ∙ ap (λ (s : Search). s.next.items) w.self-is ∙ items))
     ]
+
+pub returns-clause-events : goal.returns-clause-events
+returns-clause-events c =
+    let same = c.in_ok-keep.ensures.kept.0 ∙ same-explored c in
+    (ap (λ (e : Explored). e.events) same, ap (λ (e : Explored). e.bound) same)
