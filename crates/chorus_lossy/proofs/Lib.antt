@@ -1,7 +1,6 @@
 pub mod Growth
 pub mod Counts
 pub mod Soundness
-pub mod Arrivals
 pub mod Parts
 pub mod Progress
 pub mod Running

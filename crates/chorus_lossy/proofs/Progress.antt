@@ -1,22 +1,23 @@
 -- The run ends, and what it has delivered then.
-use Rattle.std.proofs.Common.{◌≡◌, ℕ, zero, suc, ◌+◌, ◌-◌, ◌*◌, ◌/◌, ◌%◌, ◌<◌, ◌≤◌, ⊎_elim, Bool, true, false, cond, List, [], ◌∷◌, length, get_or, min, Option, None, Some, is_some, refl, sym, ◌∙◌, ap, subst, arith}
-use Rattle.std.specs.Prelude.{IsSome, slice_get, ◌==◌, not}
+use Rattle.std.proofs.Common.{◌≡◌, ℕ, zero, suc, ◌+◌, ◌-◌, ◌*◌, ◌/◌, ◌%◌, ◌<◌, ◌≤◌, ⊎_elim, Bool, true, false, cond, List, [], length, get_or, min, Option, None, Some, is_some, refl, sym, ◌∙◌, ap, subst, arith}
+use Rattle.std.specs.Prelude.{◌==◌, not}
 use Rattle.std.specs.List.{prefix_len}
-use Rattle.std.proofs.lemmas.Bool.{cond_both, cond-false, cond-true, cases_lt, cases_eq, and_right, not_from_true, eqb-true, eq-eqb, le-ltb, lt-leb, le-leb}
+use Rattle.std.proofs.lemmas.Bool.{or_left, lt-ltb, cond_both, cond-false, cond-true, cases_lt, cases_eq, and_right, not_from_true, eqb-true, eq-eqb, lt-leb, le-leb}
 use Rattle.std.proofs.lemmas.Grind.{div_ceil_times}
 use Rattle.std.proofs.lemmas.List.{length-take, take_all}
 use Rattle.std.proofs.lemmas.List.Sums.{prefix_len_passes}
 use Rattle.chorus_transport.specs.declared.chunk.Chunk.{Chunk}
 use Rattle.chorus_draw.specs.Draws.{next_state, number_of}
-use Rattle.chorus_transport.specs.Sending.{Sending, next_number, emitted, answer_to, after_ack, moved}
+use Rattle.chorus_transport.specs.Sending.{Sending, next_number, answer_to, after_ack, moved}
 use Rattle.chorus_transport.specs.declared.sender.Acked.{Acked}
 use Rattle.chorus_transport.specs.declared.sender.Acked.TheVariants as acked
-use Rattle.chorus_transport.specs.Receiving.{ack_of}
-use Rattle.chorus_lossy.specs.Line.{Ends, Hear, chunk_count}
+use Rattle.chorus_transport.specs.Receiving.{ack_of, is_known}
+use Rattle.chorus_transport.proofs.PlaceLemmas.{acknowledges}
+use Rattle.chorus_lossy.specs.Line.{Ends, Hear, chunk_count, window_count}
 use Rattle.chorus_lossy.specs.Rounds.{Moment, happened, one_lost, is_lost, filled, all_sent, released, all_delivered, heard, acknowledged, is_done, unless_done, round, opening, after_rounds}
 use Rattle.chorus_lossy.proofs.Counts.{Counts, counts-round}
 use Rattle.chorus_lossy.proofs.Soundness.{IsSound, opening_sound, ack_sound}
-use Rattle.chorus_lossy.proofs.Parts.{filled_put, IsGood, AreRight, all_sent_moves, all_sent_on, released_released, released_known, released_none, all_delivered_delivered}
+use Rattle.chorus_lossy.proofs.Parts.{filled_put, IsGood, AreRight, IsOn, all_sent_moves, all_sent_on, released_released, released_known, released_none, all_delivered_delivered}
 
 -- What is delivered, by its count.
 
@@ -89,16 +90,11 @@ pub record Begins (bytes : List ℕ) (m : Moment) : Type 0 where
   pub sound : IsSound bytes m.ends m.delivered
   pub held : m.held ≡ []
 
--- how far it has come
-abbrev pub way : Moment → ℕ
-way m = m.ends.sender.base + m.ends.receiver.delivered
-
 -- where all was delivered that is to be in this round
 pub record Arrives (bytes : List ℕ) (m later : Moment) : Type 0 where
   pub sound : IsSound bytes later.ends later.delivered
   pub held : later.held ≡ []
   pub base : later.ends.sender.base ≡ m.ends.sender.base
-  pub rise : m.ends.receiver.delivered ≤ later.ends.receiver.delivered
   pub empty : prefix_len is_some later.ends.receiver.ahead ≡ 0
 
 right_none : (bytes : List ℕ) (next : ℕ) (held : List (ℕ × Chunk)) → held ≡ [] → AreRight bytes next held
@@ -118,45 +114,37 @@ last_arrives bytes n m h =
     let s = all_sent_moves bytes 0 n (filled bytes m) (filled_good bytes m h) in
     let r = released_released bytes (all_sent n (filled bytes m)) s.good in
     let d = all_delivered_delivered bytes (released (all_sent n (filled bytes m))) r.sound in
-    let same = ap (λ x. x.delivered) f.receiver in
     record {
       sound = d.sound;
       held = d.held ∙ released_none (all_sent n (filled bytes m));
       base = ap (λ x. x.base) (d.sender ∙ r.sender ∙ s.sender) ∙ f.base;
-      rise = omega (arith, d.ack, d.empty, r.delivered, s.delivered, same);
       empty = d.empty;
     }
-
-first_some : (xs : List Chunk) → 0 < length xs → is_some (slice_get xs 0) ≡ true
-first_some [] some = absurd (omega arith)
-first_some (x ∷ xs) some = refl
-
-first_kept : (s : Sending) → 0 < length s.kept → IsSome (emitted s s.base)
-first_kept s some =
-    let at : s.base - s.base ≡ 0 = omega arith in
-    ap is_some (cond-false _ None _ (le-ltb s.base s.base (omega arith)) ∙ ap (slice_get s.kept) at) ∙ first_some s.kept some
 
 nothing_lost : (n fate : ℕ) → n % 4 ≡ 0 → is_lost n fate ≡ false
 nothing_lost n fate e = and_right (fate == 0) (not (n % 4 == 0)) (not_from_true (n % 4 == 0) (eq-eqb (n % 4) 0 e))
 
--- where nothing is lost, more is known than was acknowledged
-last_known : (bytes : List ℕ) (n : ℕ) (m : Moment) → Begins bytes m → n % 4 ≡ 0 → is_done bytes m ≡ false → m.ends.sender.base < (last bytes n m).ends.receiver.delivered
-last_known bytes n m h lossless more =
-    let f = filled_put bytes m h.sound in
+-- where nothing is lost, all that was put is delivered
+last_all : (bytes : List ℕ) (n : ℕ) (m : Moment) → Begins bytes m → n % 4 ≡ 0 → next_number (filled bytes m).ends.sender ≤ (last bytes n m).ends.receiver.delivered
+last_all bytes n m h lossless =
     let full = filled bytes m in
     let good = filled_good bytes m h in
-    let fewer = not_done_count bytes m h.sound more in
-    let base = h.sound.base in
-    let window = h.sound.window in
-    let some : 0 < length full.ends.sender.kept = omega (arith, f.many) in
-    let same = ap (λ x. x.delivered) f.receiver in
-    let b = full.ends.sender.base in
-    let s = all_sent_moves bytes b n full good in
-    let on = all_sent_on bytes n full (λ fate. nothing_lost n fate lossless) good (first_kept full.ends.sender some) some (omega (arith, f.base, same)) (omega (arith, f.base, same)) in
+    let s = all_sent_moves bytes 0 n full good in
     let r = released_released bytes (all_sent n full) s.good in
-    let known = released_known bytes b (all_sent n full) s.good (omega (arith, f.base, same, s.ack)) (omega (arith, f.base, same, s.delivered)) on in
     let d = all_delivered_delivered bytes (released (all_sent n full)) r.sound in
-    omega (arith, f.base, d.ack, d.empty, known)
+    let base = good.sound.base in
+    let fits = good.sound.fits in
+    let known : (i : ℕ) → i < next_number full.ends.sender → is_known (released (all_sent n full)).ends.receiver i ≡ true =
+    λ i below.
+    ⊎_elim
+    (λ (before : i < full.ends.sender.base). or_left _ _ (lt-ltb i (released (all_sent n full)).ends.receiver.delivered (omega (arith, before, base, s.delivered, r.delivered))))
+    (λ (from : full.ends.sender.base ≤ i).
+    let k = i - full.ends.sender.base in
+    let at : full.ends.sender.base + k ≡ i = omega (arith, from) in
+    let on = all_sent_on bytes n full (λ fate. nothing_lost n fate lossless) good k (omega (arith, at, below)) in
+    released_known bytes i (all_sent n full) s.good (omega (arith, below, base, fits, s.delivered)) (subst (λ j. IsOn j (all_sent n full)) at on))
+    (cases_lt i full.ends.sender.base) in
+    omega (arith, acknowledges (released (all_sent n full)).ends.receiver (next_number full.ends.sender) known, d.ack, d.empty)
 
 -- The acknowledgement.
 
@@ -195,18 +183,17 @@ heard_moves : (n fate : ℕ) (m : Moment) → is_lost n fate ≡ false → m.end
 heard_moves n fate m safe above within =
     ap (λ (x : Moment). x.ends.sender.base) (cond-false (is_lost n fate) (one_lost m) (happened (Hear (ack_of m.ends.receiver)) m) safe) ∙ moved_to m.ends.sender (ack_of m.ends.receiver) above within
 
-acknowledged_moves : (n : ℕ) (m : Moment) → n % 4 ≡ 0 → m.ends.sender.base < ack_of m.ends.receiver → ack_of m.ends.receiver ≤ next_number m.ends.sender → m.ends.sender.base < (acknowledged n m).ends.sender.base
+acknowledged_moves : (n : ℕ) (m : Moment) → n % 4 ≡ 0 → m.ends.sender.base < ack_of m.ends.receiver → ack_of m.ends.receiver ≤ next_number m.ends.sender → (acknowledged n m).ends.sender.base ≡ ack_of m.ends.receiver
 unfolding acknowledged
 acknowledged_moves n m lossless above within =
     let fate = number_of (next_state m.state) % 4 in
-    let at = heard_moves n fate (record m { state = next_state m.state }) (nothing_lost n fate lossless) above within in
-    omega arith
+    heard_moves n fate (record m { state = next_state m.state }) (nothing_lost n fate lossless) above within
 
 -- The round as a whole.
 
 pub record IsPlayed (bytes : List ℕ) (m later : Moment) : Type 0 where
   pub begins : Begins bytes later
-  pub on : way m ≤ way later
+  pub base : m.ends.sender.base ≤ later.ends.sender.base
 
 unless : (P : Moment → Type 0) (bytes : List ℕ) (next : Moment → Moment) (m : Moment) → (is_done bytes m ≡ true → P m) → (is_done bytes m ≡ false → P (next m)) → P (unless_done bytes next m)
 unless P bytes next m p q = cond_both (is_done bytes m) m (next m) P p q
@@ -216,24 +203,27 @@ unfolding round
 round_played bytes n m h =
     let a = last_arrives bytes n m h in
     let k = acknowledged_acknowledged bytes n (last bytes n m) a.sound a.empty in
-    let same = ap (λ x. x.delivered) k.receiver in
     unless (IsPlayed bytes m) bytes (acknowledged n) (last bytes n m)
-    (λ _. record { begins = record { sound = a.sound; held = a.held }; on = omega (arith, a.base, a.rise) })
-    (λ _. record { begins = record { sound = k.sound; held = k.held ∙ a.held }; on = omega (arith, a.base, a.rise, k.base, same) })
+    (λ _. record { begins = record { sound = a.sound; held = a.held }; base = omega (arith, a.base) })
+    (λ _. record { begins = record { sound = k.sound; held = k.held ∙ a.held }; base = omega (arith, a.base, k.base) })
 
-pub round_moves : (bytes : List ℕ) (n : ℕ) (m : Moment) → Begins bytes m → n % 4 ≡ 0 → is_done bytes m ≡ false → way m < way (round bytes n m)
+-- a round that loses nothing and does not end the run brings a window more
+round_moves : (bytes : List ℕ) (n : ℕ) (m : Moment) → Begins bytes m → n % 4 ≡ 0 → is_done bytes (round bytes n m) ≡ false → m.ends.sender.base + 8 ≤ (round bytes n m).ends.sender.base
 unfolding round
 round_moves bytes n m h lossless more =
     let l = last bytes n m in
+    let f = filled_put bytes m h.sound in
     let a = last_arrives bytes n m h in
-    let k = acknowledged_acknowledged bytes n l a.sound a.empty in
-    let same = ap (λ x. x.delivered) k.receiver in
-    let known = last_known bytes n m h lossless more in
-    let fewer = not_done_count bytes m h.sound more in
+    let all = last_all bytes n m h lossless in
     let within = ack_within bytes l.ends l.delivered a.sound in
-    unless (λ later. way m < way later) bytes (acknowledged n) l
-    (λ done. let all = done_count bytes l a.sound done in omega (arith, a.base, all))
-    (λ _. let moves = acknowledged_moves n l lossless (omega (arith, a.base, known, a.empty)) within in omega (arith, a.base, a.rise, moves, same))
+    unless (λ later. is_done bytes later ≡ false → m.ends.sender.base + 8 ≤ later.ends.sender.base) bytes (acknowledged n) l
+    (λ done other. absurd (let two : true ≡ false = sym done ∙ other in cc))
+    (λ going _.
+    let fewer = not_done_count bytes l a.sound going in
+    let put : m.ends.sender.base + 8 ≤ next_number (filled bytes m).ends.sender = omega (arith, f.many, f.base, all, fewer, h.sound.window, h.sound.fits) in
+    let moves = acknowledged_moves n l lossless (omega (arith, a.base, a.empty, all, put)) within in
+    omega (arith, a.base, a.empty, all, put, moves))
+    more
 
 -- All rounds.
 
@@ -244,30 +234,31 @@ rounds_begin first bytes (suc k) =
     let before = rounds_begin first bytes k in
     unless (Begins bytes) bytes (round bytes (suc k)) (after_rounds first bytes k) (λ _. before) (λ _. (round_played bytes (suc k) _ before).begins)
 
-rounds_move : (first : ℕ) (bytes : List ℕ) (k : ℕ) → is_done bytes (after_rounds first bytes k) ≡ false → k / 4 ≤ way (after_rounds first bytes k)
+rounds_move : (first : ℕ) (bytes : List ℕ) (k : ℕ) → is_done bytes (after_rounds first bytes k) ≡ false → 8 * (k / 4) ≤ (after_rounds first bytes k).ends.sender.base
 unfolding after_rounds
 rounds_move first bytes zero more = omega arith
 rounds_move first bytes (suc k) more =
     let m = after_rounds first bytes k in
     let begins = rounds_begin first bytes k in
-    unless (λ later. is_done bytes later ≡ false → suc k / 4 ≤ way later) bytes (round bytes (suc k)) m
+    unless (λ later. is_done bytes later ≡ false → 8 * (suc k / 4) ≤ later.ends.sender.base) bytes (round bytes (suc k)) m
     (λ done more'. absurd (let two : true ≡ false = sym done ∙ more' in cc))
     (λ before more'.
     let far = rounds_move first bytes k before in
-    let on = (round_played bytes (suc k) m begins).on in
+    let base = (round_played bytes (suc k) m begins).base in
     ⊎_elim
-    (λ (e : suc k % 4 ≡ 0). let moves = round_moves bytes (suc k) m begins e before in omega arith)
+    (λ (e : suc k % 4 ≡ 0). let moves = round_moves bytes (suc k) m begins e more' in omega arith)
     (λ (ne : suc k % 4 ≡ 0 → ⊥). omega arith)
     (cases_eq (suc k % 4) 0))
     more
 
 -- the run is done after so many rounds at most
-pub rounds_end : (first : ℕ) (bytes : List ℕ) (k : ℕ) → is_done bytes (after_rounds first bytes k) ≡ false → k < 8 * chunk_count bytes + 4
+pub rounds_end : (first : ℕ) (bytes : List ℕ) (k : ℕ) → is_done bytes (after_rounds first bytes k) ≡ false → k < 4 * window_count bytes
 rounds_end first bytes k more =
     let far = rounds_move first bytes k more in
     let h = (rounds_begin first bytes k).sound in
     let fewer = not_done_count bytes (after_rounds first bytes k) h more in
     let base = h.base in
+    let covers = (div_ceil_times (chunk_count bytes) 8 (omega arith)).0 in
     omega arith
 
 pub rounds_count : (first : ℕ) (bytes : List ℕ) (k : ℕ) → Counts (8 * k) (9 * k) (opening first) (after_rounds first bytes k)

@@ -1,10 +1,10 @@
 -- What the caller of the rounds needs of them.
-use Rattle.std.proofs.Common.{◌≡◌, ◌≢◌, ℕ, zero, suc, ◌+◌, ◌-◌, ◌*◌, ◌<◌, ◌≤◌, true, false, List, [], length, refl, sym, ◌∙◌, ap, subst, arith, append-nil}
+use Rattle.std.proofs.Common.{◌≡◌, ◌≢◌, ℕ, zero, suc, ◌+◌, ◌-◌, ◌*◌, ◌≤◌, true, false, List, [], length, refl, sym, ◌∙◌, ap, subst, arith, append-nil}
 use Rattle.std.proofs.lemmas.Bool.{cond-false, cond-true, eq-eqb, ne_eqb}
 use Rattle.chorus_transport.specs.Sending.{Sending, next_number}
 use Rattle.chorus_transport.specs.Receiving.{Receiving, ack_of}
 use Rattle.chorus_lossy.specs.declared.rounds.Run.{Run}
-use Rattle.chorus_lossy.specs.Line.{Ends, Event, ends, new_ends, after, chunk_count}
+use Rattle.chorus_lossy.specs.Line.{Ends, Event, ends, new_ends, after, chunk_count, window_count}
 use Rattle.chorus_lossy.specs.Rounds.{Moment, filled, all_sent, released, all_delivered, acknowledged, is_done, round, opening, after_rounds}
 use Rattle.chorus_lossy.specs.Running.{IsAt, IsBetween}
 use Rattle.chorus_lossy.specs.Carrying.{IsCarried, IsWithin}
@@ -56,7 +56,7 @@ pub record IsReady (bytes : List ℕ) (n : ℕ) (run : Run) (s : Sending) : Type
   pub window : s.window ≡ 8
   pub emitted : run.emitted ≤ 8 * (n - 1)
   pub lost : run.lost ≤ 9 * (n - 1)
-  pub few : n < 8 * chunk_count bytes + 5
+  pub few : n ≤ 4 * window_count bytes
 
 pub ready_at : (first : ℕ) (bytes : List ℕ) (n : ℕ) (run : Run) (s : Sending) (r : Receiving) → 1 ≤ n → IsAt (after_rounds first bytes (n - 1)) run s r → length run.delivered.items ≢ length bytes → IsReady bytes n run s
 ready_at first bytes n run s r from e other =
@@ -79,8 +79,8 @@ pub record IsFinal (first : ℕ) (bytes : List ℕ) (run : Run) (s : Sending) (r
   pub put : next_number s ≡ chunk_count bytes
   pub acknowledged : ack_of r ≡ chunk_count bytes
 
-pub final_at : (first : ℕ) (bytes : List ℕ) (k : ℕ) (run : Run) (s : Sending) (r : Receiving) → IsAt (after_rounds first bytes k) run s r → length run.delivered.items ≡ length bytes → IsFinal first bytes run s r
-final_at first bytes k run s r e same =
+pub final_at : (first : ℕ) (bytes : List ℕ) (k : ℕ) (run : Run) (s : Sending) (r : Receiving) → k ≤ 4 * window_count bytes → IsAt (after_rounds first bytes k) run s r → length run.delivered.items ≡ length bytes → IsFinal first bytes run s r
+final_at first bytes k run s r soon e same =
     let m = after_rounds first bytes k in
     let done = done_at bytes m run s r e same in
     let sound = (rounds_begin first bytes k).sound in
@@ -88,6 +88,7 @@ final_at first bytes k run s r e same =
       delivered = sym (ap (λ x. x.delivered) e) ∙ done_bytes bytes m sound done;
       carried = record {
         rounds = k;
+        soon = soon;
         done = done;
         emissions = sym (ap (λ x. x.emitted) e);
         losses = sym (ap (λ x. x.lost) e);

@@ -14,6 +14,10 @@ chunk_at bytes i = take CHUNK_BYTES (drop (i * CHUNK_BYTES) bytes)
 abbrev pub chunk_count : List ℕ → ℕ
 chunk_count bytes = div_ceil (length bytes) CHUNK_BYTES
 
+-- how many windows they fill, of which the last one may have fewer
+abbrev pub window_count : List ℕ → ℕ
+window_count bytes = div_ceil (chunk_count bytes) WINDOW
+
 pub record Ends : Type 0 where
   pub sender : Sending
   pub receiver : Receiving

@@ -9,15 +9,13 @@ use Rattle.chorus_show.specs.declared.status.TheConstants.Status.{TOO_LONG}
 use Rattle.chorus_transport.specs.Sending.{next_number}
 use Rattle.chorus_transport.specs.Receiving.{ack_of}
 use Rattle.chorus_lossy.specs.declared.printing.TheConstants.{INPUT_LIMIT}
-use Rattle.chorus_lossy.specs.Line.{Ends, new_ends, chunk_count}
+use Rattle.chorus_lossy.specs.Line.{Ends, new_ends, chunk_count, window_count}
 use Rattle.chorus_lossy.specs.Rounds.{Moment, after_rounds}
 use Rattle.chorus_lossy.specs.Carrying.{IsWithin}
 
--- After so many rounds all is delivered, whatever the draws: each fourth round loses nothing, and until all is
--- delivered one chunk more is delivered or acknowledged by it. So eight rounds for each chunk are enough, and four are
--- to spare.
+-- After so many rounds all is delivered, whatever the draws: each fourth round loses nothing, and brings a window more.
 abbrev pub whole_run : ℕ → List ℕ → Moment
-whole_run first bytes = after_rounds first bytes (8 * chunk_count bytes + 4)
+whole_run first bytes = after_rounds first bytes (4 * window_count bytes)
 
 -- the line `wire EMITTED LOST`
 abbrev pub wire_line : ℕ → ℕ → List ℕ

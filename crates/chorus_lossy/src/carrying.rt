@@ -25,7 +25,8 @@ pub struct Carried {
 /// Carries the bytes over the two ends, which were just made with a window of [`WINDOW`](crate::WINDOW), in chunks of
 /// [`CHUNK_BYTES`](crate::CHUNK_BYTES), the last one shorter. The draws begin with the first state.
 ///
-/// The only error is want of memory. It leaves the ends as they are after a first part of what happens in the run.
+/// It ends within four rounds for each window of chunks, whatever the draws. The only error is want of memory. It leaves the
+/// ends as they are after a first part of what happens in the run.
 pub fn carry(
     alloc: Global,
     first: u64,

@@ -39,10 +39,10 @@ kept_from r number e =
     (cases_lt number r.delivered)
 
 -- what was acknowledged for the first time was put
-moved_from : (s : Sending) (upto by : ℕ) → sending.answer_to s upto ≡ acked.Moved by → (upto ≡ s.base + by) × (upto ≤ next_number s)
+pub moved_from : (s : Sending) (upto by : ℕ) → sending.answer_to s upto ≡ acked.Moved by → (upto ≡ s.base + by) × (upto ≤ next_number s)
 moved_from s upto by e = (grind (arith, nat_tests), grind (arith, nat_tests))
 
-not_beyond : (s : Sending) (upto : ℕ) → upto ≤ next_number s → sending.answer_to s upto ≢ acked.Beyond
+pub not_beyond : (s : Sending) (upto : ℕ) → upto ≤ next_number s → sending.answer_to s upto ≢ acked.Beyond
 not_beyond s upto le e = grind (arith, nat_tests)
 
 -- what every event keeps
@@ -57,7 +57,7 @@ pub record Holds (line : Line) : Type 0 where
   pub base : line.sender.base ≤ ack_of line.receiver
 
 -- what is acknowledged was put
-ack_was_put : (line : Line) → Holds line → ack_of line.receiver ≤ length line.put
+pub ack_was_put : (line : Line) → Holds line → ack_of line.receiver ≤ length line.put
 ack_was_put line h =
     let filled = prefix_len is_some line.receiver.ahead in
     ⊎_elim
@@ -145,7 +145,7 @@ get_or-slid : (ahead : List (Option Chunk)) (k : ℕ) → get_or (drop 1 ahead +
 get_or-slid [] k = get_or-replicate_none Chunk 1 k
 get_or-slid (x ∷ xs) k = get_or-padded 1 xs k
 
-prefix_len-slid : (ahead : List (Option Chunk)) (chunk : Chunk) → get_or ahead 0 None ≡ Some chunk → 1 + prefix_len is_some (drop 1 ahead ++ None ∷ []) ≡ prefix_len is_some ahead
+pub prefix_len-slid : (ahead : List (Option Chunk)) (chunk : Chunk) → get_or ahead 0 None ≡ Some chunk → 1 + prefix_len is_some (drop 1 ahead ++ None ∷ []) ≡ prefix_len is_some ahead
 prefix_len-slid [] chunk e = absurd (none-some chunk e)
 prefix_len-slid (None ∷ xs) chunk e = absurd (none-some chunk e)
 prefix_len-slid (Some x ∷ xs) chunk e = ap (λ n. 1 + n) (prefix_len-padded 1 xs)

@@ -1,11 +1,13 @@
 -- A window's places, and the numbers that a receiver knows.
-use Rattle.std.proofs.Common.{◌≡◌, ℕ, zero, suc, one-add, ◌+◌, ◌-◌, ◌<◌, ◌≤◌, true, false, IsTrue, List, [], ◌∷◌, ◌++◌, length, length-append, append_assoc, replicate, get_or, set, Option, None, Some, is_some, refl, sym, ◌∙◌, ap, ⊎_elim, arith}
+use Rattle.std.proofs.Common.{◌≡◌, ℕ, zero, suc, one-add, ◌+◌, ◌-◌, ◌<◌, ◌≤◌, ◌⊎◌, inl, inr, Bool, ◌||◌, nat_lt, true, false, IsTrue, List, [], ◌∷◌, ◌++◌, length, length-append, append_assoc, replicate, get_or, set, Option, None, Some, is_some, refl, sym, ◌∙◌, ap, subst, ⊎_elim, arith}
 use Rattle.std.specs.List.{prefix_len}
 use Rattle.std.proofs.lemmas.Bool.{both_ways, cases_lt, lt-ltb, le-ltb, lt-leb, cond-false, or_left, or_right, or_from}
 use Rattle.std.proofs.lemmas.List.{length-replicate, length-set, replicate-append-replicate, set-append_left}
 use Rattle.std.proofs.lemmas.List.Sums.{prefix_len_passes}
 use Rattle.chorus_transport.specs.declared.chunk.Chunk.{Chunk}
-use Rattle.chorus_transport.specs.Receiving.{Receiving, padded, is_known, ack_of, kept, after_arrival}
+use Rattle.chorus_transport.specs.declared.receiver.Got.{Got}
+use Rattle.chorus_transport.specs.declared.receiver.Got.TheVariants as got
+use Rattle.chorus_transport.specs.Receiving.{Receiving, padded, is_known, answer_to, ack_of, kept, after_arrival}
 
 abbrev none : (A : Type 0) → Option A
 none A = None
@@ -114,3 +116,49 @@ places_after_arrival window delivered number xs ws chunk from within fits empty 
     ap (λ ys. receiving delivered (padded window (set ys k (Some chunk)))) widened
     ∙ ap (receiving delivered) (padded-set window _ k (Some chunk) (omega arith) ∙ ap (λ ys. set ys k (Some chunk)) (padded-widened window more xs (omega arith)))
     ∙ sym (after_arrival-kept (receiving delivered (padded window xs)) number chunk from (omega arith) (ap is_some (get_or-padded (window - length xs) xs k) ∙ empty))
+
+-- what arrives within the window is known, and stays so
+
+set_stays : (xs : List (Option Chunk)) (k j : ℕ) (chunk : Chunk) → is_some (get_or xs j None) ≡ true → is_some (get_or (set xs k (Some chunk)) j None) ≡ true
+set_stays [] k j chunk e = e
+set_stays (x ∷ xs) zero zero chunk e = refl
+set_stays (x ∷ xs) zero (suc j) chunk e = e
+set_stays (x ∷ xs) (suc k) zero chunk e = e
+set_stays (x ∷ xs) (suc k) (suc j) chunk e = set_stays xs k j chunk e
+
+set_fills : (xs : List (Option Chunk)) (k : ℕ) (chunk : Chunk) → k < length xs → is_some (get_or (set xs k (Some chunk)) k None) ≡ true
+set_fills [] k chunk lt = absurd (omega (arith, lt))
+set_fills (x ∷ xs) zero chunk lt = refl
+set_fills (x ∷ xs) (suc k) chunk lt = set_fills xs k chunk (omega (arith, lt))
+
+or_cases : (x y : Bool) → (x || y) ≡ true → (x ≡ true) ⊎ (y ≡ true)
+or_cases true y e = inl refl
+or_cases false y e = inr e
+
+pub kept_stays : (r : Receiving) (number i : ℕ) (chunk : Chunk) (answer : Got) → is_known r i ≡ true → is_known (kept r number chunk answer) i ≡ true
+kept_stays r number i chunk got.Old e = e
+kept_stays r number i chunk got.Far e = e
+kept_stays r number i chunk got.Kept e =
+    ⊎_elim (λ a. or_left _ _ a) (λ b. or_right _ _ (set_stays r.ahead (number - r.delivered) (i - r.delivered) chunk b))
+    (or_cases (nat_lt i r.delivered) (is_some (get_or r.ahead (i - r.delivered) None)) e)
+
+pub arrived_known : (r : Receiving) (number : ℕ) (chunk : Chunk) → number < r.delivered + length r.ahead → is_known (after_arrival r number chunk) number ≡ true
+arrived_known r number chunk lt = by (is_known r number) refl
+  where
+    by : (b : Bool) → is_known r number ≡ b → is_known (after_arrival r number chunk) number ≡ true
+    by true e = kept_stays r number number chunk (answer_to r number) e
+    by false e =
+        ⊎_elim
+        (λ (l : number < r.delivered). absurd (both_ways _ e (or_left _ (is_some (get_or r.ahead (number - r.delivered) None)) (lt-ltb number r.delivered l))))
+        (λ (g : r.delivered ≤ number).
+        let is : answer_to r number ≡ got.Kept = cond-false _ _ _ e ∙ cond-false _ _ _ (lt-leb (r.delivered + length r.ahead) number lt) in
+        subst (λ a. is_known (kept r number chunk a) number ≡ true) (sym is) (or_right _ _ (set_fills r.ahead (number - r.delivered) chunk (omega (arith, lt, g)))))
+        (cases_lt number r.delivered)
+
+-- what is known below a number is acknowledged
+pub acknowledges : (r : Receiving) (n : ℕ) → ((i : ℕ) → i < n → is_known r i ≡ true) → n ≤ ack_of r
+acknowledges r n each =
+    ⊎_elim
+    (λ (l : ack_of r < n). absurd (both_ways _ (ack_not_known r) (each (ack_of r) l)))
+    (λ (g : n ≤ ack_of r). g)
+    (cases_lt (ack_of r) n)

@@ -5,7 +5,9 @@
 //! numbers. The line between them is the caller's.
 //!
 //! The layer above rests on `line_delivers_prefix`: whatever the line does, what was delivered is a prefix of what was put.
-//! Each call's contract is in the words of `specs/Sending.antt` and `specs/Receiving.antt`, and `specs/Line.antt` has the line.
+//! That it gets through is `one_round_brings_all`: from any state, one round in which nothing is lost delivers and acknowledges
+//! all; and `fair_lines_bring_the_input`, of a line that lets one round in n through. Each call's contract is in the words of
+//! `specs/Sending.antt` and `specs/Receiving.antt`; `specs/Line.antt` has the line, `specs/Rounds.antt` its rounds.
 //! Begin with `sender.rt`.
 //!
 //! Numbers begin at 0 and count chunks. All of this is the project's own.
@@ -14,6 +16,7 @@
 mod chunk;
 mod line;
 mod receiver;
+mod rounds;
 mod sender;
 mod window_limit;
 mod window_slots;
@@ -21,4 +24,5 @@ mod window_slots;
 pub use chunk::Chunk;
 pub use line::line_delivers_prefix;
 pub use receiver::{Got, Receiver};
+pub use rounds::{fair_lines_bring_the_input, one_round_brings_all};
 pub use sender::{Acked, PutFault, Sender};

@@ -18,7 +18,7 @@ pub sum-zero : {X : Type 0} → (xs : List X) → sum_by (λ x. 0) xs ≡ 0
 sum-zero [] = refl
 sum-zero (x ∷ xs) = sum_by-cons (λ y. 0) x xs ∙ (let e = sum-zero xs in omega (arith, e))
 
-sum-add : {X : Type 0} → (f g : X → ℕ) (xs : List X) → sum_by (λ x. f x + g x) xs ≡ sum_by f xs + sum_by g xs
+pub sum-add : {X : Type 0} → (f g : X → ℕ) (xs : List X) → sum_by (λ x. f x + g x) xs ≡ sum_by f xs + sum_by g xs
 sum-add f g [] = omega arith
 sum-add f g (x ∷ xs) =
     let a = sum_by-cons (λ y. f y + g y) x xs in

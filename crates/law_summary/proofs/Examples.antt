@@ -8,7 +8,7 @@ use Rattle.chorus_entry.specs.declared.act.Act.{Act}
 use Rattle.chorus_world.specs.Steps.{is_legal}
 use Rattle.chorus_world.proofs.Examples.Names.{actor, away, first, group, now, port, second, two_sites}
 use Rattle.chorus_show.specs.Summary.{is_post, is_accept, is_take, is_stale, is_depart, is_refusal, count, discarded}
-use Rattle.law_summary.specs.Numbers.{SumsOfPorts, CountsTheRefused, CountsTheLate}
+use Rattle.law_summary.specs.Numbers.{SumsOfPorts, SumsOfFates, CountsTheRefused, CountsTheLate}
 
 abbrev posted : MsgId → Act
 posted x = Act.Post (record { id = x; tag = Tag.Plain; body = 7 ∷ [] }) (Dest.Port port)
@@ -83,6 +83,14 @@ not-accepted h = (let e : 1 ≡ 0 = h.accepted in omega (arith, e))
 -- a message is taken that was not accepted by any port
 not-taken : SumsOfPorts (now 1 (Act.Take port 0 first) ∷ []) → ⊥
 not-taken h = (let e : 1 ≡ 0 = h.taken in omega (arith, e))
+
+-- and so it has no fate
+not-received : SumsOfFates (now 1 (Act.Take port 0 first) ∷ []) → ⊥
+not-received h = (let e : 1 ≡ 0 = h.taken in omega (arith, e))
+
+-- a port ends with two messages, of which its Delete names one
+not-whole : SumsOfFates (now 4 (Act.Delete port (first ∷ [])) ∷ now 3 (Act.Accept second port 1) ∷ now 2 (Act.Accept first port 0) ∷ made) → ⊥
+not-whole h = (let e : 2 ≡ 1 = h.whole in omega (arith, e))
 
 -- two wait, and one is discarded
 not-discarded : SumsOfPorts (now 4 (Act.Delete port (first ∷ [])) ∷ now 3 (Act.Accept second port 1) ∷ now 2 (Act.Accept first port 0) ∷ made) → ⊥

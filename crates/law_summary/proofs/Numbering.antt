@@ -33,6 +33,7 @@ use Rattle.chorus_show.specs.Summary.{is_post, is_stale, is_refusal}
 use Rattle.law_summary.specs.Numbers.{has_seat, seats_of, SumsOfSeats, has_message, with_message, messages_of, is_refused, CountsTheRefused, is_too_late, decides_late, late_decisions, SummariesCountTheRest}
 use Rattle.law_summary.proofs.Adding.{sum-reverse, sum-zero, sum-one, Each, each-more, sum-same, sum-by-keys}
 use Rattle.law_summary.proofs.ByPort.{one, sums-of-ports}
+use Rattle.law_summary.proofs.ByFate.{sums-of-fates}
 
 -- Seats.
 
@@ -308,6 +309,7 @@ pub summaries_count_rest : SummariesCountTheRest
 summaries_count_rest l past layout h =
     record {
       ports = sums-of-ports l past layout h;
+      fates = sums-of-fates l past layout h;
       posted = sums-of-seats past;
       refused = counts-the-refused l past h;
       stale = sum-reverse (λ (e : Entry). one (is_stale e.act)) past ∙ late-count l past layout h;

@@ -1,6 +1,6 @@
 -- The other numbers of a summary, each as the world has it. l is a layout, q a port, x the id of a message, s a seat; a
 -- past has its newest entry first, a summary is of the entries in order.
-use Rattle.std.specs.Prelude.{ℕ, ◌≡◌, ◌+◌, ◌-◌, ◌==◌, nat_lt, Bool, true, false, not, ◌&&◌, if◌then◌else◌, List, [], ◌∷◌, ◌++◌, length, reverse, Option, Some, None, is_none, sum_by, count_by}
+use Rattle.std.specs.Prelude.{ℕ, zero, suc, ◌≡◌, ◌+◌, ◌-◌, ◌==◌, nat_lt, Bool, true, false, not, ◌&&◌, if◌then◌else◌, List, [], ◌∷◌, ◌++◌, length, reverse, Option, Some, None, is_none, sum_by, count_by}
 use Rattle.std.specs.List.{list_any}
 use Rattle.chorus_ui.specs.declared.ui.Ui.{Ui}
 use Rattle.chorus_ui.specs.declared.layout.Layout.{Layout}
@@ -17,6 +17,7 @@ use Rattle.chorus_world.specs.declared.progress.Progress.TheVariants.{Tried}
 use Rattle.chorus_world.specs.Views.{at, by, about, on}
 use Rattle.chorus_world.specs.Ports.{PortState, fate, is_made, is_ended, is_held_at}
 use Rattle.chorus_world.specs.Ports as ports
+use Rattle.chorus_world.specs.Fates.{MessageFate, Received, Queued, UnderWay, Discarded, fate_at}
 use Rattle.chorus_world.specs.Posts.{site_asked}
 use Rattle.chorus_world.specs.Messages.{progress, verdict}
 use Rattle.chorus_world.specs.Places.{located}
@@ -24,7 +25,7 @@ use Rattle.chorus_world.specs.Seats.{posts}
 use Rattle.chorus_world.specs.Steps.{is_legal}
 use Rattle.chorus_world.specs.AcceptedLaws.{accepted_by, taken_by}
 use Rattle.chorus_show.specs.declared.queues.Spot.TheVariants.{Held, Moving, Ended}
-use Rattle.chorus_show.specs.Summary.{is_post, is_accept, is_take, is_stale, is_depart, is_refusal, count, discarded, ports_at}
+use Rattle.chorus_show.specs.Summary.{is_post, is_accept, is_take, is_stale, is_depart, is_refusal, count, discarded, ports_at, waiting_at}
 
 -- Sums over the ports.
 
@@ -112,9 +113,46 @@ late_decisions l (e ∷ past) =
 abbrev pub CountsTheLate : Layout → List Entry → Type 0
 CountsTheLate l past = count is_stale (reverse past) ≡ late_decisions l past
 
+-- Fates.
+
+abbrev pub fate_number : MessageFate → ℕ
+fate_number Received = 0
+fate_number Queued = 1
+fate_number UnderWay = 2
+fate_number Discarded = 3
+
+-- the message that a port accepted at position i has this fate
+abbrev pub has_fate : MessageFate → ℕ → PortState → Bool
+has_fate what i f = fate_number (fate_at i f) == fate_number what
+
+-- how many of the first n that it accepted have it, and how many of all
+abbrev pub with_fate : MessageFate → PortState → ℕ → ℕ
+with_fate what f zero = 0
+with_fate what f (suc i) = with_fate what f i + (if has_fate what i f then 1 else 0)
+
+abbrev pub fates_in : MessageFate → Option PortState → ℕ
+fates_in what None = 0
+fates_in what (Some f) = with_fate what f (length f.accepted)
+
+-- over all ports
+abbrev pub fates : MessageFate → List Entry → ℕ
+fates what past = sum_by (λ q. fates_in what (fate (on q past))) (made_ports (reverse past))
+
+-- Taken, queued, moving and discarded are as many messages as have this fate; and each that was accepted is in one of
+-- these numbers.
+pub record SumsOfFates (past : List Entry) : Type 0 where
+  pub whole : count is_accept (reverse past)
+      ≡ count is_take (reverse past) + waiting_at Held (reverse past) + waiting_at Moving (reverse past)
+      + discarded (reverse past)
+  pub taken : count is_take (reverse past) ≡ fates Received past
+  pub queued : waiting_at Held (reverse past) ≡ fates Queued past
+  pub moving : waiting_at Moving (reverse past) ≡ fates UnderWay past
+  pub discarded : discarded (reverse past) ≡ fates Discarded past
+
 -- All of these, of each legal list.
 pub record CountsTheRest (l : Layout) (past : List Entry) : Type 0 where
   pub ports : SumsOfPorts past
+  pub fates : SumsOfFates past
   pub posted : SumsOfSeats past
   pub refused : CountsTheRefused past
   pub stale : CountsTheLate l past

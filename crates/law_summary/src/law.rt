@@ -10,6 +10,8 @@ ghost use Rattle.law_summary.specs.Numbers.{SummariesCountTheRest};
 /// a message follows its port: one that is queued is in a port that is held, one that is under way in a port that moves, one
 /// that was discarded in a port that ended (`fates`).
 ///
+/// Taken, queued, moving and discarded are as many messages as have this fate, and together all that were accepted (`rest`).
+///
 /// The other numbers are the world's too (`rest`). What was accepted, taken and discarded, and the departs, are the sums over
 /// all ports that were made of what the world has of each: how many messages it accepted and gave out, how many waited in it
 /// when it ended, and its hops. What was posted is the sum of what each seat posted. Refused are as many messages as have a

@@ -6,3 +6,4 @@ pub mod Settled
 pub mod Caused
 pub mod Chosen
 pub mod Numbered
+pub mod Looked

@@ -135,7 +135,7 @@ at-actors-site l past q a f layout h is held =
 -- NotHere.
 
 -- who holds it at a place holds it
-held-holds : (p : ℕ) (a : Ui) (o : Option PortState) → is_held_at_by p a o ≡ true → holds a o ≡ true
+pub held-holds : (p : ℕ) (a : Ui) (o : Option PortState) → is_held_at_by p a o ≡ true → holds a o ≡ true
 held-holds p a None h = absurd (false≢true h)
 held-holds p a (Some f) h = (and_parts (is_held_by a f.spot) (is_last p f) h).0
 

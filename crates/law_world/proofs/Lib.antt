@@ -9,4 +9,5 @@ pub mod Turning
 pub mod Choosing
 pub mod Naming
 pub mod Holding
+pub mod Looks
 pub mod Examples

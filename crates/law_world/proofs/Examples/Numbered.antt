@@ -27,10 +27,10 @@ use Rattle.law_world.proofs.Examples.Played.{posted}
 abbrev of_places : ℕ → Layout
 of_places t = record { sites = 2; turns = t }
 
-abbrev actor_of : ℕ → Ui
+abbrev pub actor_of : ℕ → Ui
 actor_of n = record { site = 1; kind = kinds.Actor; number = n }
 
-abbrev port_of : ℕ → Ui
+abbrev pub port_of : ℕ → Ui
 port_of n = record { site = 1; kind = kinds.Port; number = n }
 
 -- seat 0, which is in an actor of the first site, at the place p of this site
@@ -54,10 +54,10 @@ makes-its-share = (refl, refl, refl, refl)
 
 -- The port 2 of a site of two places is at the second one, and the first actor, whose home is the first, comes to hold it. A NotHere of
 -- this port at the actor's home may stand in a run, but it answers no command of the actor: these go to the second place.
-abbrev handed : List Entry
+abbrev pub handed : List Entry
 handed = at_place 2 2 (Act.Rehome (port_of 2) (actor_of 1)) ∷ at_place 2 1 (Act.Make (port_of 2) (actor_of 2) 1) ∷ []
 
-abbrev at_home : Entry
+abbrev pub at_home : Entry
 at_home = record { clock = 3; place = 1; seat = 1; act = Act.NotHere (port_of 2) }
 
 abbrev first_two : ℕ → Option Ui

@@ -11,6 +11,7 @@ loop-alloc-init c =
     let made = c.new-run.ensures in
     record {
       from = omega arith;
+      soon = omega arith;
       at = opens c.args.first c.args.bytes.now c.new-run.result c.args.sender.now c.args.receiver.now c.requires made.state made.held made.delivered made.emitted made.lost;
       none = made.held;
     }
@@ -105,8 +106,10 @@ loop-alloc-preserved c =
     let inv = c.loop-alloc.invariant in
     let other : length run.delivered.items ≢ length bytes = λ same. omega (arith, run.delivered.ok.0) in
     let more = open_at bytes (after_rounds first bytes (n - 1)) run s r inv.at other in
+    let ready = ready_at first bytes n run s r inv.from inv.at other in
     record {
       from = omega arith;
+      soon = omega (arith, ready.few);
       at = subst (λ x. IsAt x c.play.new.run c.play.new.sender c.play.new.receiver) (next_round first bytes n inv.from more) (c.in_ok-play.ensures.ok (after_rounds first bytes (n - 1)) inv.at);
       none = c.in_ok-play.ensures.held;
     }
@@ -121,7 +124,7 @@ returns-clause-delivered c =
     let r = c.loop-alloc.receiver in
     let inv = c.loop-alloc.invariant in
     let same : length run.delivered.items ≡ length bytes = omega (arith, run.delivered.ok.0) in
-    let final = final_at first bytes (n - 1) run s r inv.at same in
+    let final = final_at first bytes (n - 1) run s r inv.soon inv.at same in
     rw c.carried.ensures.delivered final.delivered
 
 pub returns-clause-put : goal.returns-clause-put
@@ -134,7 +137,7 @@ returns-clause-put c =
     let r = c.loop-alloc.receiver in
     let inv = c.loop-alloc.invariant in
     let same : length run.delivered.items ≡ length bytes = omega (arith, run.delivered.ok.0) in
-    let final = final_at first bytes (n - 1) run s r inv.at same in
+    let final = final_at first bytes (n - 1) run s r inv.soon inv.at same in
     final.put
 
 pub returns-clause-acknowledged : goal.returns-clause-acknowledged
@@ -147,5 +150,5 @@ returns-clause-acknowledged c =
     let r = c.loop-alloc.receiver in
     let inv = c.loop-alloc.invariant in
     let same : length run.delivered.items ≡ length bytes = omega (arith, run.delivered.ok.0) in
-    let final = final_at first bytes (n - 1) run s r inv.at same in
+    let final = final_at first bytes (n - 1) run s r inv.soon inv.at same in
     final.acknowledged
