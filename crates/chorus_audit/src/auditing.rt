@@ -63,7 +63,7 @@ fn verdict_line(alloc: Global, layout: Layout, text: &[u8]) -> Result<Vec<u8>, A
 }
 
 /// Appends the line that says what an audit finds. After an error a part of it may stand there.
-fn push_verdict(audit: Audit, out: &mut Vec<u8>) -> Result<(), AllocError>
+pub fn push_verdict(audit: Audit, out: &mut Vec<u8>) -> Result<(), AllocError>
     ensures { OnOk result (out.new.items ≡ out.old.items ++ verdict_text audit) }
 {
     match audit {

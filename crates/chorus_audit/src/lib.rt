@@ -22,7 +22,7 @@ mod limits;
 mod parts;
 mod words;
 
-pub use auditing::audit;
+pub use auditing::{audit, push_verdict};
 pub use entries::parse_entry;
 pub use judging::{Audit, Reading, audit_text, read_text};
 pub use law::a_text_has_one_verdict;

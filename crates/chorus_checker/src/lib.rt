@@ -15,6 +15,6 @@ mod port;
 mod rule;
 mod world;
 
-pub use checker_ledger::PortState;
+pub use checker_ledger::{Ledger, PortState};
 pub use fault::WorldFault;
 pub use world::World;

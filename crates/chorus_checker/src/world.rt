@@ -74,6 +74,13 @@ impl World {
         self.ledger.verdict(id)
     }
 
+    /// The ledger of all entries so far, which tells what they have made of each message, port, place and caller.
+    pub fn ledger(&self) -> &Ledger
+        ensures { result.now ≡ self.now }
+    {
+        &self.ledger
+    }
+
     /// The layout of the world.
     fn layout(&self) -> Layout
         ensures { result ≡ self.now.layout }

@@ -1,0 +1,23 @@
+use Rattle.std.proofs.Common.{◌≡◌, ◌++◌, reverse, sym, ap, ◌∙◌}
+use Rattle.std.proofs.lemmas.List.{reverse-reverse}
+use Rattle.chorus_world.specs.Steps.{State}
+use Rattle.law_judge.specs.Open.{all_open}
+use Rattle.chorus_judge.specs.Judgements.{judgement_of}
+use Rattle.chorus_judge.specs.Texts.{judged_text}
+use Rattle.chorus_judge.proofs.judging.judged.Goals as goal
+
+pub returns : goal.returns
+returns c =
+    let world = c.in_ok-reading.reading.world in
+    let audit = c.in_ok-reading.reading.audit in
+    let all = all_open c.args.layout in
+    let opens : c.in_ok-opens.opens.items ≡ all (reverse (reverse world.past)) =
+    c.in_ok-opens.ensures ∙ ap (λ (w : State). all w.past) c.ledger.ensures ∙ ap all (sym (reverse-reverse world.past)) in
+    record {
+      entries = reverse world.past;
+      audit = audit;
+      read = c.in_ok-reading.ensures;
+      judged = c.judgement_of.ensures ∙ ap (judgement_of audit) (c.deref-2.ensures.value ∙ opens);
+      is =
+          c.in_ok-push_judged.ensures ∙ (λ i. c.new-told.ensures.items i ++ judged_text audit ((c.deref.ensures.value ∙ opens) i));
+    }

@@ -1,0 +1,4 @@
+pub mod Judgements
+pub mod Texts
+pub mod Findings
+pub mod Output
