@@ -104,7 +104,7 @@ pub(crate) fn pump<R: Wait>(rt: &R, nucleus: &Nucleus, pass: &mut Pass, place: u
     if !nucleus.layout().has_place(place) {
         return None;
     }
-    nucleus.pump(rt, pass, place).ok()
+    nucleus.serve(rt, pass, place).ok()
 }
 
 /// Ends the measured nucleus. Each other pass was retired into this one: else it waits for them, so for ever.

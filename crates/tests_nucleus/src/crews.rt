@@ -3,8 +3,8 @@
 ghost use Rattle.chorus_nucleus.specs.Passes.{IsPassOf};
 
 use crate::ground::{actor_of, assert_lawful, close, enter, make, port_of, retire, send, start};
-use crate::handlers::{Counts, Meets};
-use chorus_crew::{CrewFault, Handled, Handler, are_pairs, crew};
+use crate::handlers::{Counts, InOrder, Meets};
+use chorus_crew::{CrewFault, Folded, Handled, Handler, Unfinished, are_pairs, crew, crew_with};
 use chorus_entry::{Act, Entry};
 use chorus_net::Closed;
 use chorus_nucleus::{Nucleus, Pass};
@@ -236,4 +236,80 @@ fn a_crew_handles_each_message_once(rt: HostRuntime) {
     for (task, takes) in [(few, 4 * 48), (many, 2 * 64 * 64)] {
         assert_all_handled(&rt, rt.alloc(), &task, takes);
     }
+}
+
+/// Whether the crew handled all messages of each port, and put down the position behind the last.
+fn is_folded(folded: &[Folded<u64>], task: &Task) -> bool {
+    let messages = task.messages;
+    folded.iter().all(|one| one.count == messages && one.state == messages && one.stopped.is_none())
+}
+
+/// How many messages a crew handled.
+fn handled_in(folded: &[Folded<u64>]) -> u64 {
+    let mut count: u64 = 0;
+    for one in folded {
+        count = count.saturating_add(one.count);
+    }
+    count
+}
+
+/// Asserts that a crew tells as many messages as its handler counted in order, and that it handled all of the task.
+fn assert_all_folded(
+    rt: &impl Abort,
+    answer: &Result<Vec<Folded<u64>>, Unfinished<u64>>,
+    task: &Task,
+    calls: u64,
+) {
+    match answer {
+        Ok(folded) => {
+            assert!(rt; handled_in(folded) == calls);
+            assert!(rt; is_folded(folded, task));
+        }
+        Err(unfinished) => {
+            assert!(rt;
+                handled_in(&unfinished.folded) == calls,
+                "what was handled was not told"
+            );
+            panic!(rt; "a crew stopped");
+        }
+    }
+}
+
+/// Fills the ports of the task, runs a crew that is to handle them in order, and asserts that it tells what it did. Gives how many
+/// messages came in order.
+fn run_fold<R: Threads + Wait + Abort + Sync>(
+    rt: &R,
+    alloc: Global,
+    nucleus: &Nucleus,
+    pass: &mut Pass,
+    task: &Task,
+) -> u64
+    requires { IsPassOf nucleus.now pass.old }
+    ensures { IsPassOf nucleus.now pass.new }
+{
+    fill_all(rt, alloc, nucleus, pass, task, true);
+    let ports = pairs_of(rt, alloc, task);
+    let fold = InOrder::start();
+    assert!(rt; pass.keeper() && pass.worn().is_none());
+    assert!(rt; are_pairs(nucleus.layout(), &ports));
+    assert!(rt; task.workers >= 1 && task.workers <= 16);
+    let answer = crew_with(rt, alloc, nucleus, pass, &ports, task.workers, &fold);
+    assert_all_folded(rt, &answer, task, fold.calls());
+    fold.calls()
+}
+
+/// A crew handles the messages of each port in order, and tells how many it handled of each, also where it stopped.
+/// `bench/fail_allocations` runs the built test too.
+#[test]
+fn a_crew_folds_in_order(rt: HostRuntime) {
+    let task = Task {
+        sites: 1,
+        ports: 4,
+        messages: 48,
+        workers: 4,
+        crews: 1,
+    };
+    let (nucleus, mut pass) = start(&rt, rt.alloc(), task.sites, 1);
+    let calls = run_fold(&rt, rt.alloc(), &nucleus, &mut pass, &task);
+    assert!(rt; takes_of(&close(&rt, nucleus, pass)) == calls);
 }

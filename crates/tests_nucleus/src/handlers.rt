@@ -1,7 +1,8 @@
 //! Handlers that put down what they are called for. The value of each message is 1.
 
-use chorus_crew::Handler;
+use chorus_crew::{Fold, Handler};
 use chorus_entry::Message;
+use chorus_nucleus::TakenMessage;
 use chorus_ui::Ui;
 use std::sync::atomic::{AtomicBool, AtomicU64, Ordering};
 use std::thread;
@@ -82,5 +83,46 @@ impl Handler for Meets {
         }
         self.missed.store(true, Ordering::SeqCst);
         1
+    }
+}
+
+/// Counts the calls in which a message came at the position behind that of the one before it, or at 0 as the first. The state of
+/// a port is the position that is next.
+#[derive(Drop)]
+pub(crate) struct InOrder {
+    calls: AtomicU64,
+}
+
+impl InOrder {
+    /// A handler that counts the messages that come in order, of which none came yet.
+    pub(crate) fn start() -> InOrder {
+        InOrder {
+            calls: AtomicU64::new(0),
+        }
+    }
+
+    /// How many messages came in order.
+    pub(crate) fn calls(&self) -> u64 {
+        self.calls.load(Ordering::SeqCst)
+    }
+}
+
+impl Fold for InOrder {
+    ghost use Rattle.tests_nucleus.specs.Next.{next};
+
+    type State = u64;
+
+    ghost way = { λ _. next };
+
+    fn begin(&self, _port: Ui) -> u64 {
+        0
+    }
+
+    /// Counts the call where the message is the next, and puts down the position behind it.
+    fn handle(&self, state: &mut u64, _port: Ui, taken: TakenMessage) {
+        if taken.position == *state {
+            self.calls.fetch_add(1, Ordering::SeqCst);
+        }
+        *state = taken.position.wrapping_add(1);
     }
 }

@@ -11,6 +11,8 @@ mod ground;
 #[cfg(test)]
 mod handlers;
 #[cfg(test)]
+mod looking;
+#[cfg(test)]
 mod moving;
 #[cfg(test)]
 mod one_thread;

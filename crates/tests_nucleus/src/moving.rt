@@ -72,7 +72,7 @@ fn pump_all<R: Wait + Abort>(rt: &R, nucleus: &Nucleus, pass: &mut Pass)
 {
     for place in 1..=16 {
         if nucleus.layout().has_place(place) {
-            match nucleus.pump(rt, pass, place) {
+            match nucleus.serve(rt, pass, place) {
                 Ok(_) => {}
                 Err(CallFault::Busy { .. }) => thread::yield_now(),
                 Err(_) => panic!(rt; "not pumped"),

@@ -280,14 +280,13 @@ fn assert_readers_end<R: Wait + Abort>(
 }
 
 /// Calls, each with what it is to tell: the keeper makes a port, which then departs to the other site.
-fn departs(rt: &impl Abort) -> [(Call, Told); 6] {
+fn departs(rt: &impl Abort) -> [(Call, Told); 5] {
     let departed = Reply::Departed { hop: 1 };
     [
         (Call::MakePort { site: 1 }, made(rt, 1)),
         (Call::Locate, located(1, 0, 0)),
         (Call::Move { site: 2, number: 1 }, Told::Replied(departed)),
         (Call::Pump { place: 1 }, Told::Idle),
-        (Call::Publish { place: 1 }, Told::Published),
         (Call::Locate, located(2, 1, 2)),
     ]
 }
@@ -301,6 +300,8 @@ fn locate_reads_the_board(rt: HostRuntime) {
     play(&rt, &nucleus, &mut pass, &departs(&rt), false);
     let there = [(Call::Locate, located(2, 1, 2))];
     play(&rt, &nucleus, &mut second, &there, false);
+    let lacks = [(Call::Publish { place: 1 }, Told::Published)];
+    play(&rt, &nucleus, &mut second, &lacks, false);
     assert_readers_end(&rt, &nucleus, &mut pass, &mut second);
     retire(&nucleus, second, &mut pass);
     assert!(rt; pass.readers(1) == 1 && pass.readers(2) == 64);

@@ -45,8 +45,10 @@ pub(crate) enum Call {
     Delete,
     /// What became of a message.
     Outcome(MsgId),
-    /// The place is served.
+    /// The place is served, and publishes what its board lacks.
     Pump { place: u16 },
+    /// The place is served.
+    Serve { place: u16 },
     /// The place publishes what its board lacks.
     Publish { place: u16 },
     /// Where the port is.
@@ -172,17 +174,31 @@ fn outcome(nucleus: &Nucleus, pass: &mut Pass, id: MsgId) -> Told
     }
 }
 
+/// What the pass is told of a serve or a pump.
+fn served(done: Result<Pump, CallFault>) -> Told {
+    match done {
+        Ok(Pump::Served { from }) => Told::Served(from),
+        Ok(Pump::Idle { .. }) => Told::Idle,
+        Err(why) => fault(why),
+    }
+}
+
 /// Serves the place, and gives what the pass is told.
+fn serve<R: Wait + Abort>(rt: &R, nucleus: &Nucleus, pass: &mut Pass, place: u16) -> Told
+    requires { IsPassOf nucleus.now pass.old }
+    ensures { IsPassOf nucleus.now pass.new }
+{
+    assert!(rt; nucleus.layout().has_place(place));
+    served(nucleus.serve(rt, pass, place))
+}
+
+/// Serves the place, which then publishes, and gives what the pass is told.
 fn pump<R: Wait + Abort>(rt: &R, nucleus: &Nucleus, pass: &mut Pass, place: u16) -> Told
     requires { IsPassOf nucleus.now pass.old }
     ensures { IsPassOf nucleus.now pass.new }
 {
     assert!(rt; nucleus.layout().has_place(place));
-    match nucleus.pump(rt, pass, place) {
-        Ok(Pump::Served { from }) => Told::Served(from),
-        Ok(Pump::Idle { .. }) => Told::Idle,
-        Err(why) => fault(why),
-    }
+    served(nucleus.pump(rt, pass, place))
 }
 
 /// Publishes what the place's board lacks, and gives what the pass is told.
@@ -218,9 +234,19 @@ fn tell<R: Wait + Abort>(rt: &R, nucleus: &Nucleus, pass: &mut Pass, call: Call)
     match call {
         Call::Outcome(id) => outcome(nucleus, pass, id),
         Call::Pump { place } => pump(rt, nucleus, pass, place),
+        Call::Serve { place } => serve(rt, nucleus, pass, place),
         Call::Publish { place } => publish(rt, nucleus, pass, place),
         Call::Locate => locate(rt, nucleus, pass),
         _ => replied(command(rt, nucleus, pass, call)),
+    }
+}
+
+/// What is called where each call that finds no memory is made once more: a serve for a pump, of which what was served is not told
+/// where the publish finds none.
+fn to_repeat(call: Call) -> Call {
+    match call {
+        Call::Pump { place } => Call::Serve { place },
+        _ => call,
     }
 }
 
@@ -236,6 +262,7 @@ fn assert_tells<R: Wait + Abort>(
     requires { IsPassOf nucleus.now pass.old }
     ensures { IsPassOf nucleus.now pass.new }
 {
+    let call = if again { to_repeat(call) } else { call };
     let mut told = tell(rt, nucleus, pass, call);
     if again && told == Told::Memory {
         told = tell(rt, nucleus, pass, call);
