@@ -98,6 +98,45 @@ def drawn_bars(root, heights, places, columns):
     return found
 
 
+def drawn_arrows(root, heights):
+    """The arrows of a picture, as `packets` has them."""
+    arrows = []
+    for path in root.iter(SVG + "path"):
+        if path.get("class") in KINDS and path.find(SVG + "title") is not None:
+            start, end = path.get("d")[1:].split("H")
+            points = [int(word) for word in start.split(" ") + end.replace("L", " ").split(" ")]
+            arrows.append((path.get("class"), heights.index(points[1]), heights.index(points[4])))
+    return arrows
+
+
+def state_complaint(data, picture):
+    """What is wrong with the data of a page of a lawful journal, beside its picture, or None: at each entry the ports that are held, where and
+    with how many messages, are the bars there, and the packets that were worked off are the arrows."""
+    root = ElementTree.fromstring(picture)
+    marks = [group for group in root.iter(SVG + "g") if group.get("class") in MARKS]
+    heights = [int(mark.find(SVG + "use").get("y")) for mark in marks]
+    lines = [mark.find(SVG + "title").text for mark in marks]
+    if data["lines"] != lines or data["heights"] != heights:
+        return "its lines are not the entries of the picture"
+    places = [line.split(" ")[1] for line in lines]
+    columns = {place: int(mark.find(SVG + "use").get("x")) for mark, place in zip(marks, places)}
+    bars, said = [set() for _ in lines], [set() for _ in lines]
+    for port, count, begin, end in drawn_bars(root, heights, places, columns) if lines else []:
+        for number in range(begin, len(lines) if end is None else end):
+            bars[number].add((port, places[begin], count))
+    for port, changes in data["ports"].items():
+        for (begin, (place, to, _, _, taken, accepted, is_deleted)), after in zip(changes, changes[1:] + [[len(lines)]]):
+            for number in range(begin, after[0]):
+                if to is None and not is_deleted:
+                    said[number].add((port, place, accepted - taken))
+    wrong = next((number for number in range(len(lines)) if bars[number] != said[number]), None)
+    if wrong is not None:
+        return f"at entry {wrong} it has {sorted(said[wrong] - bars[wrong])} where the picture has {sorted(bars[wrong] - said[wrong])}"
+    if sorted((kind, put, done) for kind, _, put, done, _, _ in data["packets"] if done is not None) != sorted(drawn_arrows(root, heights)):
+        return "its packets are not the arrows of the picture"
+    return None
+
+
 def complaint(journal, picture):
     """What is wrong with the picture of a lawful journal, or None."""
     count = int(journal.split("\n", 1)[0].split(" ")[1])
@@ -119,13 +158,7 @@ def complaint(journal, picture):
     heads = {(text.text, int(text.get("x")) - 6) for text in root.iter(SVG + "text") if text.get("class") == "head"}
     if {head for head in heads if head[0].startswith("place ")} != {(f"place {place}", x) for place, x in columns.items()}:
         return "a column has the head of another place"
-    arrows = []
-    for path in root.iter(SVG + "path"):
-        if path.get("class") in KINDS and path.find(SVG + "title") is not None:
-            start, end = path.get("d")[1:].split("H")
-            points = [int(word) for word in start.split(" ") + end.replace("L", " ").split(" ")]
-            arrows.append((path.get("class"), heights.index(points[1]), heights.index(points[4])))
-    if sorted(arrows) != sorted(packets(lines)):
+    if sorted(drawn_arrows(root, heights)) != sorted(packets(lines)):
         return "its arrows are not the packets of the journal"
     bars = drawn_bars(root, heights, [line.split(" ")[1] for line in lines], columns) if lines else []
     if bars is None or sorted(bars, key=str) != sorted(held(lines), key=str):
