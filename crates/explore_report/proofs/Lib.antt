@@ -1,5 +1,6 @@
 pub mod Counting
+pub mod Differing
 pub mod Reporting
 pub mod Singles
-pub mod Lines
+pub mod More
 pub mod Telling

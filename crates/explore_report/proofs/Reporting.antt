@@ -3,7 +3,7 @@ use Rattle.std.proofs.Common.{ℕ, zero, suc, ◌≡◌, ◌≢◌, ◌+◌, ◌
 use Rattle.std.specs.List.{insert}
 use Rattle.std.proofs.lemmas.Bool.{false≢true, eqb-true, eq-eqb, ne_eqb}
 use Rattle.std.proofs.lemmas.List.{map-append}
-use Rattle.explore_report.specs.Reports.{Told, lines_from, same_bytes, tell_line, tell_lines}
+use Rattle.explore_report.specs.Lines.{lines_from, same_bytes}
 
 -- Bytes that are the same.
 
@@ -11,7 +11,7 @@ pub same-self : (xs : List ℕ) → same_bytes xs xs ≡ true
 same-self [] = refl
 same-self (x ∷ xs) = ap (λ b. cond b (same_bytes xs xs) false) (eq-eqb x x refl) ∙ same-self xs
 
-same-eq : (xs ys : List ℕ) → same_bytes xs ys ≡ true → xs ≡ ys
+pub same-eq : (xs ys : List ℕ) → same_bytes xs ys ≡ true → xs ≡ ys
 same-eq [] [] h = refl
 same-eq [] (y ∷ ys) h = absurd (false≢true h)
 same-eq (x ∷ xs) [] h = absurd (false≢true h)
@@ -68,8 +68,8 @@ drop-first (x ∷ xs) zero b lt e = ap (λ y. y ∷ xs) (sym e)
 drop-first (x ∷ xs) (suc i) b lt e = (let n : i + 1 ≡ suc i = omega arith in drop-first xs i b (omega (arith, lt)) e ∙ ap (λ (k : ℕ). b ∷ drop k xs) n) ∙ (let m : suc (suc i) ≡ suc i + 1 = omega arith in ap (λ (k : ℕ). b ∷ drop k (x ∷ xs)) m)
 
 -- a line that ends here, or goes on
-pub line-ends : (n : ℕ) (before rest : List ℕ) (b : ℕ) (told : List Told) → b ≡ 10 → tell_lines n (lines_from before (b ∷ rest)) told ≡ tell_lines n (lines_from [] rest) (tell_line n (before ++ b ∷ []) told)
-line-ends n before rest b told e = ap (λ c. tell_lines n (cond c ((before ++ b ∷ []) ∷ lines_from [] rest) (lines_from (before ++ b ∷ []) rest)) told) (eq-eqb b 10 e)
+pub line-ends : (before rest : List ℕ) (b : ℕ) → b ≡ 10 → lines_from before (b ∷ rest) ≡ (before ++ b ∷ []) ∷ lines_from [] rest
+line-ends before rest b e = ap (λ c. cond c ((before ++ b ∷ []) ∷ lines_from [] rest) (lines_from (before ++ b ∷ []) rest)) (eq-eqb b 10 e)
 
-pub line-goes-on : (n : ℕ) (before rest : List ℕ) (b : ℕ) (told : List Told) → b ≢ 10 → tell_lines n (lines_from before (b ∷ rest)) told ≡ tell_lines n (lines_from (before ++ b ∷ []) rest) told
-line-goes-on n before rest b told ne = ap (λ c. tell_lines n (cond c ((before ++ b ∷ []) ∷ lines_from [] rest) (lines_from (before ++ b ∷ []) rest)) told) (ne_eqb b 10 ne)
+pub line-goes-on : (before rest : List ℕ) (b : ℕ) → b ≢ 10 → lines_from before (b ∷ rest) ≡ lines_from (before ++ b ∷ []) rest
+line-goes-on before rest b ne = ap (λ c. cond c ((before ++ b ∷ []) ∷ lines_from [] rest) (lines_from (before ++ b ∷ []) rest)) (ne_eqb b 10 ne)

@@ -4,17 +4,18 @@ use Rattle.std.proofs.Common.{ℕ, zero, suc, ◌≡◌, ◌+◌, Bool, true, fa
 use Rattle.std.specs.List.{Contains, insert}
 use Rattle.std.proofs.lemmas.Bool.{false≢true}
 use Rattle.explore_report.specs.declared.findings.Finding.{Finding}
-use Rattle.explore_report.specs.Reports.{Told, lines_in, same_bytes, is_told, place_in, tell_line, tell_lines, tell_from}
+use Rattle.explore_report.specs.Lines.{lines_in, same_bytes, texts_lines}
+use Rattle.explore_report.specs.Reports.{Told, is_told, place_in, tell_line, tell_lines, tell_from}
 use Rattle.explore_report.specs.Singles.{AreShown, FactsTellOutcomes, IsShownBy}
 use Rattle.explore_report.proofs.Reporting.{same-self}
 
 -- A fact more.
 
-or-left : (a b : Bool) → a ≡ true → (a || b) ≡ true
+pub or-left : (a b : Bool) → a ≡ true → (a || b) ≡ true
 or-left true b e = refl
 or-left false b e = absurd (false≢true e)
 
-or-right : (a b : Bool) → b ≡ true → (a || b) ≡ true
+pub or-right : (a b : Bool) → b ≡ true → (a || b) ≡ true
 or-right true b e = refl
 or-right false b e = e
 
@@ -84,11 +85,11 @@ lines-shown fs n (line ∷ lines) told h each =
 
 -- All outcomes.
 
-all-kept : (n : ℕ) (fs : List Finding) (line : List ℕ) (told : List Told) → is_told line told ≡ true → is_told line (tell_from n fs told) ≡ true
+all-kept : (n : ℕ) (fs : List Finding) (line : List ℕ) (told : List Told) → is_told line told ≡ true → is_told line (tell_from n (texts_lines fs) told) ≡ true
 all-kept n [] line told h = h
 all-kept n (f ∷ fs) line told h = all-kept (n + 1) fs line (tell_lines n (lines_in f.text.items) told) (lines-kept n (lines_in f.text.items) line told h)
 
-all-told : (n : ℕ) (fs : List Finding) (told : List Told) (place : ℕ) (f : Finding) (line : List ℕ) → slice_get fs place ≡ Some f → Contains (lines_in f.text.items) line → is_told line (tell_from n fs told) ≡ true
+all-told : (n : ℕ) (fs : List Finding) (told : List Told) (place : ℕ) (f : Finding) (line : List ℕ) → slice_get fs place ≡ Some f → Contains (lines_in f.text.items) line → is_told line (tell_from n (texts_lines fs) told) ≡ true
 all-told n [] told place f line e has = absurd (cc)
 all-told n (g ∷ fs) told zero f line e has =
     let same : g ≡ f = cc in
@@ -104,7 +105,7 @@ long : (gs : List Finding) (f : Finding) → length (gs ++ f ∷ []) ≡ length 
 long [] f = omega arith
 long (g ∷ gs) f = (let n = long gs f in omega (arith, n))
 
-all-shown : (all gs fs : List Finding) (n : ℕ) (told : List Told) → all ≡ gs ++ fs → n ≡ length gs + 1 → AreShown all told → AreShown all (tell_from n fs told)
+all-shown : (all gs fs : List Finding) (n : ℕ) (told : List Told) → all ≡ gs ++ fs → n ≡ length gs + 1 → AreShown all told → AreShown all (tell_from n (texts_lines fs) told)
 all-shown all gs [] n told e m h = h
 all-shown all gs (f ∷ fs) n told e m h =
     let at : slice_get all (length gs) ≡ Some f = ap (λ (xs : List Finding). slice_get xs (length gs)) e ∙ stands gs f fs in

@@ -1,4 +1,6 @@
+pub mod Differences
 pub mod Findings
+pub mod Lines
 pub mod Reports
 pub mod Singles
 pub mod Facts

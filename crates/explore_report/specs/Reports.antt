@@ -1,7 +1,7 @@
 -- The text of what may come of a race.
--- fs are findings, f is one, n the number of an outcome, from 1, told are facts with the number of the first outcome
--- that has each.
-use Rattle.std.specs.Prelude.{ℕ, ◌+◌, ◌-◌, ◌==◌, nat_le, if◌then◌else◌, Bool, true, false, ◌||◌, List, [], ◌∷◌, ◌++◌, length, codes, decimal}
+-- fs are findings, f is one, all are the lines of each outcome, always those that are in each, n the number of an outcome,
+-- from 1, told are facts with the number of the first outcome that has each.
+use Rattle.std.specs.Prelude.{ℕ, ◌+◌, ◌-◌, ◌==◌, nat_le, if◌then◌else◌, Bool, false, ◌||◌, List, [], ◌∷◌, ◌++◌, length, codes, decimal}
 use Rattle.std.specs.List.{flat_map, insert}
 use Rattle.chorus_show.specs.Journal.{count_line}
 use Rattle.chorus_show.specs.Phrases.{phrase}
@@ -9,6 +9,7 @@ use Rattle.law_explore.specs.declared.moves.Move.{Move}
 use Rattle.law_explore.specs.declared.moves.Move.TheVariants.{Go, Carry}
 use Rattle.explore_report.specs.declared.explored.Explored.{Explored}
 use Rattle.explore_report.specs.declared.findings.Finding.{Finding}
+use Rattle.explore_report.specs.Lines.{always_lines, lines_in, others_of, outcomes_with, same_bytes, texts_lines}
 use Rattle.explore_report.specs.declared.text.TheConstants.{OUTCOMES_TOLD}
 use Rattle.explore_report.specs.declared.text.Told as told
 
@@ -17,19 +18,6 @@ use Rattle.explore_report.specs.declared.text.Told as told
 pub record Told : Type 0 where
   pub outcome : ℕ
   pub line : List ℕ
-
--- the lines of a text, each with its LF; those bytes stand before the rest
-abbrev pub lines_from : List ℕ → List ℕ → List (List ℕ)
-lines_from before [] = []
-lines_from before (b ∷ bs) = if b == 10 then (before ++ b ∷ []) ∷ lines_from [] bs else lines_from (before ++ b ∷ []) bs
-
-abbrev pub lines_in : List ℕ → List (List ℕ)
-lines_in text = lines_from [] text
-
-abbrev pub same_bytes : List ℕ → List ℕ → Bool
-same_bytes [] [] = true
-same_bytes (a ∷ xs) (b ∷ ys) = if a == b then same_bytes xs ys else false
-same_bytes _ _ = false
 
 -- what stands behind the first word and its space
 abbrev pub behind_word : List ℕ → List ℕ
@@ -69,33 +57,47 @@ abbrev pub tell_lines : ℕ → List (List ℕ) → List Told → List Told
 tell_lines n [] told = told
 tell_lines n (line ∷ lines) told = tell_lines n lines (tell_line n line told)
 
-abbrev pub tell_from : ℕ → List Finding → List Told → List Told
+abbrev pub tell_from : ℕ → List (List (List ℕ)) → List Told → List Told
 tell_from n [] told = told
-tell_from n (f ∷ fs) told = tell_from (n + 1) fs (tell_lines n (lines_in f.text.items) told)
+tell_from n (lines ∷ all) told = tell_from (n + 1) all (tell_lines n lines told)
 
-abbrev pub facts_of : List Finding → List Told
-facts_of fs = tell_from 1 fs []
+abbrev pub facts_of : List (List (List ℕ)) → List Told
+facts_of all = tell_from 1 all []
 
 -- The text.
 
-abbrev pub told_line : Told → List ℕ
-told_line t = decimal t.outcome ++ 32 ∷ t.line
+-- a fact with the number of the first outcome that has it, and in how many of all it is
+abbrev pub told_line : List (List (List ℕ)) → Told → List ℕ
+told_line all t =
+    decimal t.outcome ++ 32 ∷ decimal (outcomes_with t.line all) ++ 47 ∷ decimal (length all) ++ 32 ∷ t.line
 
-abbrev pub facts_text : List Told → List ℕ
-facts_text told = count_line (codes "facts") (length told) ++ flat_map told_line told
+abbrev pub facts_text : List (List (List ℕ)) → List Told → List ℕ
+facts_text all told = count_line (codes "facts") (length told) ++ flat_map (told_line all) told
 
--- each outcome whole, where they are few
-abbrev pub outcomes_from : ℕ → List Finding → List ℕ
-outcomes_from n [] = []
-outcomes_from n (f ∷ fs) =
-    count_line (codes "outcome") n ++ count_line (codes "histories") f.histories ++ f.text.items
-    ++ outcomes_from (n + 1) fs
+abbrev pub plain_text : List (List ℕ) → List ℕ
+plain_text lines = flat_map (λ (line : List ℕ). line) lines
+
+-- how many outcomes there are, and the lines that are in each
+abbrev pub always_text : ℕ → List (List ℕ) → List ℕ
+always_text outcomes always =
+    count_line (codes "outcomes") outcomes ++ count_line (codes "always") (length always) ++ plain_text always
+
+-- the other lines of an outcome
+abbrev pub rest_text : List (List ℕ) → List (List ℕ) → List ℕ
+rest_text always lines = plain_text (others_of always lines)
+
+abbrev pub outcomes_from : ℕ → List (List ℕ) → List Finding → List ℕ
+outcomes_from n always [] = []
+outcomes_from n always (f ∷ fs) =
+    10 ∷ count_line (codes "outcome") n ++ count_line (codes "histories") f.histories
+    ++ rest_text always (lines_in f.text.items) ++ outcomes_from (n + 1) always fs
 
 abbrev pub are_few : List Finding → Bool
 are_few fs = nat_le (length fs) OUTCOMES_TOLD
 
-abbrev pub outcomes_text : List Finding → List ℕ
-outcomes_text fs = count_line (codes "outcomes") (length fs) ++ (if are_few fs then outcomes_from 1 fs else [])
+-- each of them, where they are few
+abbrev pub few_outcomes : Bool → List (List ℕ) → List Finding → List ℕ
+few_outcomes few always fs = if few then outcomes_from 1 always fs else []
 
 abbrev pub step_line : Move → List ℕ
 step_line (Go script) = count_line (codes "step") (script + 1)
@@ -110,7 +112,7 @@ abbrev pub is_shown : ℕ → Bool → List Told → Bool
 is_shown n few told = few || is_named n told
 
 abbrev pub schedule_text : ℕ → Bool → List Move → List ℕ
-schedule_text n shown moves = if shown then count_line (codes "schedule") n ++ flat_map step_line moves else []
+schedule_text n shown moves = if shown then 10 ∷ count_line (codes "schedule") n ++ flat_map step_line moves else []
 
 abbrev pub schedules_from : ℕ → Bool → List Told → List Finding → List ℕ
 schedules_from n few told [] = []
@@ -121,11 +123,17 @@ schedules_from n few told (f ∷ fs) =
 abbrev pub limit_line : Bool → ℕ → List ℕ
 limit_line is_cut bound = if is_cut then count_line (codes "some") bound else codes "all" ++ 10 ∷ []
 
+abbrev pub outcomes_text : List Finding → List ℕ
+outcomes_text fs =
+    let always = always_lines (texts_lines fs) in
+    always_text (length fs) always ++ few_outcomes (are_few fs) always fs
+
 abbrev pub report_text : Explored → List ℕ
 report_text e =
     let fs = e.findings.items.items in
+    let all = texts_lines fs in
     count_line (codes "histories") e.histories ++ count_line (codes "events") e.events ++ limit_line e.is_cut e.bound
-    ++ facts_text (facts_of fs) ++ outcomes_text fs ++ schedules_from 1 (are_few fs) (facts_of fs) fs
+    ++ facts_text all (facts_of all) ++ outcomes_text fs ++ schedules_from 1 (are_few fs) (facts_of all) fs
     ++ codes "end" ++ 10 ∷ []
 
 -- a fact as the code has it

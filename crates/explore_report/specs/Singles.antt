@@ -2,7 +2,8 @@
 -- fs are the outcomes that were found, told the single facts, a line is a fact's.
 use Rattle.std.specs.Prelude.{ℕ, ◌≡◌, ◌+◌, true, List, [], ◌∷◌, Some, slice_get, Contains}
 use Rattle.explore_report.specs.declared.findings.Finding.{Finding}
-use Rattle.explore_report.specs.Reports.{Told, lines_in, is_told, facts_of}
+use Rattle.explore_report.specs.Lines.{lines_in, texts_lines}
+use Rattle.explore_report.specs.Reports.{Told, is_told, facts_of}
 
 -- the fact is a line of the outcome that it names, counted from 1
 pub record IsShownBy (fs : List Finding) (t : Told) : Type 0 where
@@ -24,4 +25,4 @@ pub record TellSingles (fs : List Finding) (told : List Told) : Type 0 where
 
 -- so it is of those that are told
 abbrev pub FactsTellOutcomes : Type 0
-FactsTellOutcomes = (fs : List Finding) → TellSingles fs (facts_of fs)
+FactsTellOutcomes = (fs : List Finding) → TellSingles fs (facts_of (texts_lines fs))

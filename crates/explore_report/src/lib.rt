@@ -5,7 +5,8 @@
 //! The layer above rests on this: told from the journals of all places and from the ports that are held, the lines are those of the
 //! facts of `law_explore`, without the numbers that only tell when. [`Findings`] has each outcome once, with how many histories come
 //! to it and the first of them, and [`report`] writes exactly the bytes of `report_text`. That the single facts of that text are
-//! those of the outcomes, none made up and none missing, is the law [`single_facts_tell_all_outcomes`].
+//! those of the outcomes, none made up and none missing, is the law [`single_facts_tell_all_outcomes`]; that of each outcome the
+//! lines that are in all of them and its others are told, and no other, is [`differences_tell_all_outcomes`].
 //!
 //! Begin with `specs/Facts.antt`, a line for each fact, and `specs/Outcomes.antt`, the lines as they are told from an end; then
 //! [`Findings`], and `specs/Reports.antt`, the text.
@@ -15,12 +16,13 @@ mod explored;
 mod facts;
 mod findings;
 mod laws;
+mod lines;
 mod outcomes;
 mod text;
 
 pub use explored::Explored;
 pub use facts::push_answered;
 pub use findings::{Finding, Findings};
-pub use laws::single_facts_tell_all_outcomes;
+pub use laws::{differences_tell_all_outcomes, single_facts_tell_all_outcomes};
 pub use outcomes::{is_stale_at, push_all_ports, push_messages, verdict_at};
 pub use text::report;

@@ -1,12 +1,14 @@
 //! The text of what may come of a race.
 
-ghost use Rattle.std.specs.Prelude.{◌≡◌, ◌≢◌, ◌≤◌, ◌++◌, true, false, length, map, IfOk, OnOk};
+ghost use Rattle.std.specs.Prelude.{◌≡◌, ◌≤◌, ◌++◌, length, map, IfOk, OnOk};
 ghost use Rattle.std.specs.List.{flat_map};
 ghost use Rattle.chorus_show.specs.Journal.{count_line};
-ghost use Rattle.explore_report.specs.Reports.{are_few, behind_word, facts_of, facts_text, front_words, is_named, is_shown, is_told, limit_line, lines_in, outcomes_from, place_in, outcomes_text, report_text, same_bytes, schedule_text, schedules_from, step_line, subject_of, tell_line, tell_lines, told_of};
+ghost use Rattle.explore_report.specs.Lines.{line_of, lines_of_all, texts_lines};
+ghost use Rattle.explore_report.specs.Reports.{always_text, behind_word, facts_of, facts_text, few_outcomes, front_words, is_named, is_shown, is_told, limit_line, outcomes_from, place_in, report_text, rest_text, schedule_text, schedules_from, step_line, subject_of, tell_line, tell_lines, told_line, told_of};
 
 use crate::explored::Explored;
 use crate::findings::Finding;
+use crate::lines::{Line, Lines, always_of, has_line, is_same, lines_of_all, outcomes_with};
 use chorus_ui::push_decimal;
 use law_explore::Move;
 use std::alloc::{AllocError, Global};
@@ -21,47 +23,47 @@ pub(crate) struct Told<'a> {
     pub(crate) line: &'a [u8],
 }
 
-/// The text of what was found: how many histories and events, whether a limit was met, the single facts, the outcomes,
-/// whole where they are at most 64, and a schedule for each that is told. The only error is want of memory.
+/// The text of what was found: how many histories and events, whether a limit was met, the single facts, the lines that are
+/// in each outcome, the outcomes without these where they are at most 64, and a schedule for each that is told. The only error
+/// is want of memory.
 pub fn report(alloc: Global, explored: &Explored) -> Result<Vec<u8>, AllocError>
     ensures { IfOk result (λ text. text.items ≡ report_text explored.now) }
 {
     let items = &explored.findings.items;
-    let facts = facts_of(alloc, items)?;
+    let all = lines_of_all(alloc, items)?;
+    let facts = facts_of(alloc, &all)?;
+    let always = always_of(alloc, &all)?;
     let is_few = items.len() <= OUTCOMES_TOLD;
     let mut text = Vec::new(alloc);
     push_count("histories", explored.histories, &mut text)?;
     push_count("events", explored.events, &mut text)?;
     push_limit(explored.is_cut, explored.bound as u64, &mut text)?;
-    push_facts(&facts, &mut text)?;
-    push_outcomes(items, is_few, &mut text)?;
+    push_facts(&facts, &all, &mut text)?;
+    push_always(items.len(), &always, &mut text)?;
+    push_outcomes(items, is_few, &all, &always, &mut text)?;
     push_schedules(items, is_few, &facts, &mut text)?;
     text.extend_from_slice(b"end\n")?;
     Ok(text)
 }
 
 /// The single facts, each once, with the number of the first outcome that has it; those of one subject stand together.
-fn facts_of<'a>(alloc: Global, items: &'a [Finding]) -> Result<Vec<Told<'a>>, AllocError>
-    ensures { IfOk result (λ facts. map told_of facts.items ≡ facts_of items.now) }
+fn facts_of<'a>(alloc: Global, all: &[Lines<'a>]) -> Result<Vec<Told<'a>>, AllocError>
+    ensures { IfOk result (λ facts. map told_of facts.items ≡ facts_of (lines_of_all all.now)) }
 {
     let mut facts = Vec::new(alloc);
-    for index in 0..items.len() {
-        tell(index as u64 + 1, &items[index].text, &mut facts)?;
+    for index in 0..all.len() {
+        tell(index as u64 + 1, &all[index].lines, &mut facts)?;
     }
     Ok(facts)
 }
 
 /// Adds to the single facts the lines of an outcome that were not told yet.
-fn tell<'a>(outcome: u64, text: &'a [u8], facts: &mut Vec<Told<'a>>) -> Result<(), AllocError>
+fn tell<'a>(outcome: u64, lines: &[Line<'a>], facts: &mut Vec<Told<'a>>) -> Result<(), AllocError>
     ensures { OnOk result (map told_of facts.new.items
-        ≡ tell_lines outcome (lines_in text.now) (map told_of facts.old.items)) }
+        ≡ tell_lines outcome (map line_of lines.now) (map told_of facts.old.items)) }
 {
-    let mut start = 0;
-    for index in 0..text.len() {
-        if text[index] == b'\n' {
-            tell_line(outcome, &text[start..index + 1], facts)?;
-            start = index + 1;
-        }
+    for line in lines {
+        tell_line(outcome, line.bytes, facts)?;
     }
     Ok(())
 }
@@ -89,21 +91,6 @@ fn is_told(line: &[u8], facts: &[Told<'_>]) -> bool
         }
     }
     false
-}
-
-/// Whether two facts' lines, or the subjects of two, are the same bytes.
-fn is_same(one: &[u8], other: &[u8]) -> bool
-    ensures { result ≡ same_bytes one.now other.now }
-{
-    are_equal(one, other)
-}
-
-/// Whether two byte strings of a report are equal, with a contract that says so of the bytes themselves.
-fn are_equal(one: &[u8], other: &[u8]) -> bool
-    ensures yes { result ≡ true → one.now ≡ other.now }
-    ensures no { result ≡ false → one.now ≢ other.now }
-{
-    one == other
 }
 
 /// Where the line is put among the single facts: behind the last fact of the same subject, or behind all.
@@ -157,39 +144,93 @@ fn front_words(words: u32, line: &[u8]) -> &[u8]
     line
 }
 
-/// Appends how many single facts there are, and each with the number of the first outcome that has it.
-fn push_facts(facts: &[Told<'_>], text: &mut Vec<u8>) -> Result<(), AllocError>
-    ensures { OnOk result (text.new.items ≡ text.old.items ++ facts_text (map told_of facts.now)) }
+/// Appends how many single facts there are, and each with the number of the first outcome that has it and in how many of all
+/// outcomes it is.
+fn push_facts(facts: &[Told<'_>], all: &[Lines<'_>], text: &mut Vec<u8>) -> Result<(), AllocError>
+    ensures { OnOk result (text.new.items
+        ≡ text.old.items ++ facts_text (lines_of_all all.now) (map told_of facts.now)) }
 {
     push_count("facts", facts.len() as u64, text)?;
     for fact in facts {
-        push_decimal(fact.outcome, text)?;
-        text.push(b' ')?;
-        text.extend_from_slice(fact.line)?;
+        push_fact(fact, all, text)?;
     }
     Ok(())
 }
 
-/// Appends the number of the outcomes, and each whole where they are few.
-fn push_outcomes(items: &[Finding], is_few: bool, text: &mut Vec<u8>) -> Result<(), AllocError>
-    requires { is_few ≡ are_few items.now }
-    ensures { OnOk result (text.new.items ≡ text.old.items ++ outcomes_text items.now) }
+/// Appends a single fact.
+fn push_fact(fact: &Told<'_>, all: &[Lines<'_>], text: &mut Vec<u8>) -> Result<(), AllocError>
+    ensures { OnOk result (text.new.items
+        ≡ text.old.items ++ told_line (lines_of_all all.now) (told_of fact.now)) }
 {
-    push_count("outcomes", items.len() as u64, text)?;
-    if is_few {
-        push_each(items, text)?;
+    push_decimal(fact.outcome, text)?;
+    text.push(b' ')?;
+    push_decimal(outcomes_with(fact.line, all), text)?;
+    text.push(b'/')?;
+    push_decimal(all.len() as u64, text)?;
+    text.push(b' ')?;
+    text.extend_from_slice(fact.line)
+}
+
+/// Appends the number of the outcomes, and the lines that are in each.
+fn push_always(outcomes: usize, always: &[Line<'_>], text: &mut Vec<u8>) -> Result<(), AllocError>
+    ensures { OnOk result (text.new.items
+        ≡ text.old.items ++ always_text outcomes (map line_of always.now)) }
+{
+    push_count("outcomes", outcomes as u64, text)?;
+    push_count("always", always.len() as u64, text)?;
+    for line in always {
+        text.extend_from_slice(line.bytes)?;
     }
     Ok(())
 }
 
-/// Appends each outcome whole.
-fn push_each(items: &[Finding], text: &mut Vec<u8>) -> Result<(), AllocError>
-    ensures { OnOk result (text.new.items ≡ text.old.items ++ outcomes_from 1 items.now) }
+/// Appends each outcome, without the lines that are in each, where they are few.
+fn push_outcomes(
+    items: &[Finding],
+    is_few: bool,
+    all: &[Lines<'_>],
+    always: &[Line<'_>],
+    text: &mut Vec<u8>,
+) -> Result<(), AllocError>
+    requires { lines_of_all all.now ≡ texts_lines items.now }
+    ensures { OnOk result (text.new.items ≡ text.old.items
+        ++ few_outcomes is_few (map line_of always.now) items.now) }
+{
+    if is_few {
+        push_each(items, all, always, text)?;
+    }
+    Ok(())
+}
+
+/// Appends each outcome, without the lines that are in each.
+fn push_each(
+    items: &[Finding],
+    all: &[Lines<'_>],
+    always: &[Line<'_>],
+    text: &mut Vec<u8>,
+) -> Result<(), AllocError>
+    requires { lines_of_all all.now ≡ texts_lines items.now }
+    ensures { OnOk result (text.new.items
+        ≡ text.old.items ++ outcomes_from 1 (map line_of always.now) items.now) }
 {
     for index in 0..items.len() {
+        text.push(b'\n')?;
         push_count("outcome", index as u64 + 1, text)?;
         push_count("histories", items[index].histories, text)?;
-        text.extend_from_slice(&items[index].text)?;
+        push_rest(&all[index].lines, always, text)?;
+    }
+    Ok(())
+}
+
+/// Appends the lines of an outcome that are not in each.
+fn push_rest(lines: &[Line<'_>], always: &[Line<'_>], text: &mut Vec<u8>) -> Result<(), AllocError>
+    ensures { OnOk result (text.new.items
+        ≡ text.old.items ++ rest_text (map line_of always.now) (map line_of lines.now)) }
+{
+    for line in lines {
+        if !has_line(line.bytes, always) {
+            text.extend_from_slice(line.bytes)?;
+        }
     }
     Ok(())
 }
@@ -229,6 +270,7 @@ fn push_schedule(
     if !is_shown {
         return Ok(());
     }
+    text.push(b'\n')?;
     push_count("schedule", number, text)?;
     push_steps(moves, text)
 }

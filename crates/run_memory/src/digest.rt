@@ -1,6 +1,7 @@
 //! What is compared of an exploration: how many histories there are, how many single facts and how many outcomes, the latter two each with a
-//! sum over their lines that does not depend on their order. To the lines of an outcome belongs how many histories come to it. Where there
-//! are more than 64 outcomes the exploration tells none, and there is no sum of theirs.
+//! sum over their lines that does not depend on their order. The lines that are in each outcome are summed once, as those of an outcome of
+//! their own. To the lines of an outcome belongs how many histories come to it. Where there are more than 64 outcomes the exploration tells
+//! none of them.
 
 use chorus_io::{Failed, Sink, write_all};
 use chorus_ui::parse_decimal;
@@ -63,7 +64,9 @@ impl Digest {
 
     /// The digest with one line more of the exploration's text.
     fn with_line(self, line: &[u8]) -> Digest {
-        if line.starts_with(b"facts ") {
+        if line.is_empty() {
+            self
+        } else if line.starts_with(b"facts ") {
             Digest {
                 part: Part::Facts,
                 ..self
@@ -74,7 +77,7 @@ impl Digest {
                 outcomes,
                 ..self
             }
-        } else if line.starts_with(b"outcome ") || line.starts_with(b"schedule ") {
+        } else if begins_outcome(line) {
             self.with_outcome(line)
         } else {
             self.with_line_of_part(line)
@@ -102,7 +105,9 @@ impl Digest {
             Part::Head => self.with_front(line),
             Part::Facts => Digest {
                 facts: self.facts.wrapping_add(1),
-                facts_sum: self.facts_sum.wrapping_add(sum_on(0, behind_space(line))),
+                facts_sum: self
+                    .facts_sum
+                    .wrapping_add(sum_on(0, behind_space(behind_space(line)))),
                 ..self
             },
             Part::Outcomes => Digest {
@@ -124,6 +129,11 @@ impl Digest {
             }
         }
     }
+}
+
+/// Whether an outcome or a schedule begins with the line of an exploration, or the lines that are in each outcome.
+fn begins_outcome(line: &[u8]) -> bool {
+    line.starts_with(b"always ") || line.starts_with(b"outcome ") || line.starts_with(b"schedule ")
 }
 
 /// What stands behind the first space in a line of an exploration, all of it where there is none.

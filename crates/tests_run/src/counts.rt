@@ -163,12 +163,12 @@ fn more_histories_than_can_be_told(rt: HostRuntime) {
         (
             33,
             "histories 7219428434016265740\nevents 2244\nall\nfacts 66\n",
-            "\noutcomes 1\noutcome 1\nhistories 7219428434016265740\n",
+            "\n\noutcome 1\nhistories 7219428434016265740\n",
         ),
         (
             34,
             "histories 18446744073709551615\nevents 2380\nall\nfacts 68\n",
-            "\noutcomes 1\noutcome 1\nhistories 18446744073709551615\n",
+            "\n\noutcome 1\nhistories 18446744073709551615\n",
         ),
     ] {
         let text = told_of_two(&rt, alloc, commands);

@@ -11,34 +11,37 @@ histories 4
 events 11
 all
 facts 8
-1 answer 1 1 post 1:1:0 port 1.p.1 plain =near
-1 answer 2 1 post 2:1:0 port 1.p.1 plain =far
-1 verdict 1:1:0 accepted
-2 verdict 1:1:0 full 1
-1 verdict 2:1:0 full 1
-2 verdict 2:1:0 accepted
-1 port 1.p.1 1.a.1 1:1:0
-2 port 1.p.1 1.a.1 2:1:0
+1 2/2 answer 1 1 post 1:1:0 port 1.p.1 plain =near
+1 2/2 answer 2 1 post 2:1:0 port 1.p.1 plain =far
+1 1/2 verdict 1:1:0 accepted
+2 1/2 verdict 1:1:0 full 1
+1 1/2 verdict 2:1:0 full 1
+2 1/2 verdict 2:1:0 accepted
+1 1/2 port 1.p.1 1.a.1 1:1:0
+2 1/2 port 1.p.1 1.a.1 2:1:0
 outcomes 2
-outcome 1
-histories 2
+always 2
 answer 1 1 post 1:1:0 port 1.p.1 plain =near
 answer 2 1 post 2:1:0 port 1.p.1 plain =far
+
+outcome 1
+histories 2
 verdict 1:1:0 accepted
 verdict 2:1:0 full 1
 port 1.p.1 1.a.1 1:1:0
+
 outcome 2
 histories 2
-answer 1 1 post 1:1:0 port 1.p.1 plain =near
-answer 2 1 post 2:1:0 port 1.p.1 plain =far
 verdict 1:1:0 full 1
 verdict 2:1:0 accepted
 port 1.p.1 1.a.1 2:1:0
+
 schedule 1
 step 1
 step 2
 deliver 2 1
 deliver 1 2
+
 schedule 2
 step 2
 deliver 2 1
@@ -55,76 +58,72 @@ histories 40
 events 52
 all
 facts 9
-1 answer 1 1 post 1:1:0 port 1.p.1 plain =one
-1 answer 2 1 depart 1.p.1 2 2.a.1
-1 answer 3 1 not-here 1.p.1
-2 answer 3 1 take 1.p.1 1:1:0
-3 answer 3 1 empty 1.p.1
-1 verdict 1:1:0 accepted
-4 stale 1:1:0
-1 port 1.p.1 2.a.1 1:1:0
-2 port 1.p.1 2.a.1
+1 6/6 answer 1 1 post 1:1:0 port 1.p.1 plain =one
+1 6/6 answer 2 1 depart 1.p.1 2 2.a.1
+1 2/6 answer 3 1 not-here 1.p.1
+2 2/6 answer 3 1 take 1.p.1 1:1:0
+3 2/6 answer 3 1 empty 1.p.1
+1 6/6 verdict 1:1:0 accepted
+4 3/6 stale 1:1:0
+1 4/6 port 1.p.1 2.a.1 1:1:0
+2 2/6 port 1.p.1 2.a.1
 outcomes 6
+always 3
+answer 1 1 post 1:1:0 port 1.p.1 plain =one
+answer 2 1 depart 1.p.1 2 2.a.1
+verdict 1:1:0 accepted
+
 outcome 1
 histories 12
-answer 1 1 post 1:1:0 port 1.p.1 plain =one
-answer 2 1 depart 1.p.1 2 2.a.1
 answer 3 1 not-here 1.p.1
-verdict 1:1:0 accepted
 port 1.p.1 2.a.1 1:1:0
+
 outcome 2
 histories 3
-answer 1 1 post 1:1:0 port 1.p.1 plain =one
-answer 2 1 depart 1.p.1 2 2.a.1
 answer 3 1 take 1.p.1 1:1:0
-verdict 1:1:0 accepted
 port 1.p.1 2.a.1
+
 outcome 3
 histories 1
-answer 1 1 post 1:1:0 port 1.p.1 plain =one
-answer 2 1 depart 1.p.1 2 2.a.1
 answer 3 1 empty 1.p.1
-verdict 1:1:0 accepted
 port 1.p.1 2.a.1 1:1:0
+
 outcome 4
 histories 14
-answer 1 1 post 1:1:0 port 1.p.1 plain =one
-answer 2 1 depart 1.p.1 2 2.a.1
 answer 3 1 not-here 1.p.1
-verdict 1:1:0 accepted
 stale 1:1:0
 port 1.p.1 2.a.1 1:1:0
+
 outcome 5
 histories 6
-answer 1 1 post 1:1:0 port 1.p.1 plain =one
-answer 2 1 depart 1.p.1 2 2.a.1
 answer 3 1 empty 1.p.1
-verdict 1:1:0 accepted
 stale 1:1:0
 port 1.p.1 2.a.1 1:1:0
+
 outcome 6
 histories 4
-answer 1 1 post 1:1:0 port 1.p.1 plain =one
-answer 2 1 depart 1.p.1 2 2.a.1
 answer 3 1 take 1.p.1 1:1:0
-verdict 1:1:0 accepted
 stale 1:1:0
 port 1.p.1 2.a.1
+
 schedule 1
 step 2
 step 3
 deliver 1 2
 step 1
+
 schedule 2
 step 2
 deliver 1 2
 step 1
 step 3
+
 schedule 3
 step 2
 deliver 1 2
 step 3
 step 1
+
 schedule 4
 step 1
 step 2
@@ -132,6 +131,7 @@ step 3
 deliver 1 2
 deliver 2 1
 deliver 1 2
+
 schedule 5
 step 1
 step 2
@@ -139,6 +139,7 @@ deliver 1 2
 step 3
 deliver 2 1
 deliver 1 2
+
 schedule 6
 step 1
 step 2
@@ -157,61 +158,52 @@ histories 56
 events 54
 all
 facts 14
-1 answer 1 1 post 1:1:0 port 1.p.1 plain =a
-1 answer 1 2 depart 1.p.1 2 2.a.1
-1 answer 1 3 post 1:2:0 port 1.p.1 plain =b
-1 answer 2 1 not-here 1.p.1
-3 answer 2 1 take 1.p.1 1:1:0
-1 answer 2 2 not-here 1.p.1
-2 answer 2 2 take 1.p.1 1:1:0
-3 answer 2 2 empty 1.p.1
-4 answer 2 2 take 1.p.1 1:2:0
-1 verdict 1:1:0 accepted
-1 verdict 1:2:0 accepted
-1 port 1.p.1 2.a.1 1:1:0 1:2:0
-2 port 1.p.1 2.a.1 1:2:0
-4 port 1.p.1 2.a.1
+1 4/4 answer 1 1 post 1:1:0 port 1.p.1 plain =a
+1 4/4 answer 1 2 depart 1.p.1 2 2.a.1
+1 4/4 answer 1 3 post 1:2:0 port 1.p.1 plain =b
+1 2/4 answer 2 1 not-here 1.p.1
+3 2/4 answer 2 1 take 1.p.1 1:1:0
+1 1/4 answer 2 2 not-here 1.p.1
+2 1/4 answer 2 2 take 1.p.1 1:1:0
+3 1/4 answer 2 2 empty 1.p.1
+4 1/4 answer 2 2 take 1.p.1 1:2:0
+1 4/4 verdict 1:1:0 accepted
+1 4/4 verdict 1:2:0 accepted
+1 1/4 port 1.p.1 2.a.1 1:1:0 1:2:0
+2 2/4 port 1.p.1 2.a.1 1:2:0
+4 1/4 port 1.p.1 2.a.1
 outcomes 4
+always 5
+answer 1 1 post 1:1:0 port 1.p.1 plain =a
+answer 1 2 depart 1.p.1 2 2.a.1
+answer 1 3 post 1:2:0 port 1.p.1 plain =b
+verdict 1:1:0 accepted
+verdict 1:2:0 accepted
+
 outcome 1
 histories 16
-answer 1 1 post 1:1:0 port 1.p.1 plain =a
-answer 1 2 depart 1.p.1 2 2.a.1
-answer 1 3 post 1:2:0 port 1.p.1 plain =b
 answer 2 1 not-here 1.p.1
 answer 2 2 not-here 1.p.1
-verdict 1:1:0 accepted
-verdict 1:2:0 accepted
 port 1.p.1 2.a.1 1:1:0 1:2:0
+
 outcome 2
 histories 24
-answer 1 1 post 1:1:0 port 1.p.1 plain =a
-answer 1 2 depart 1.p.1 2 2.a.1
-answer 1 3 post 1:2:0 port 1.p.1 plain =b
 answer 2 1 not-here 1.p.1
 answer 2 2 take 1.p.1 1:1:0
-verdict 1:1:0 accepted
-verdict 1:2:0 accepted
 port 1.p.1 2.a.1 1:2:0
+
 outcome 3
 histories 4
-answer 1 1 post 1:1:0 port 1.p.1 plain =a
-answer 1 2 depart 1.p.1 2 2.a.1
-answer 1 3 post 1:2:0 port 1.p.1 plain =b
 answer 2 1 take 1.p.1 1:1:0
 answer 2 2 empty 1.p.1
-verdict 1:1:0 accepted
-verdict 1:2:0 accepted
 port 1.p.1 2.a.1 1:2:0
+
 outcome 4
 histories 12
-answer 1 1 post 1:1:0 port 1.p.1 plain =a
-answer 1 2 depart 1.p.1 2 2.a.1
-answer 1 3 post 1:2:0 port 1.p.1 plain =b
 answer 2 1 take 1.p.1 1:1:0
 answer 2 2 take 1.p.1 1:2:0
-verdict 1:1:0 accepted
-verdict 1:2:0 accepted
 port 1.p.1 2.a.1
+
 schedule 1
 step 1
 step 1
@@ -221,6 +213,7 @@ step 2
 deliver 1 2
 deliver 1 2
 deliver 2 1
+
 schedule 2
 step 1
 step 1
@@ -230,6 +223,7 @@ deliver 1 2
 step 2
 deliver 1 2
 deliver 2 1
+
 schedule 3
 step 1
 step 1
@@ -239,6 +233,7 @@ step 2
 step 2
 deliver 1 2
 deliver 2 1
+
 schedule 4
 step 1
 step 1
@@ -256,37 +251,35 @@ histories 33
 events 50
 some 8
 facts 10
-1 answer 1 1 post 1:1:0 port 1.p.1 plain =a
-1 answer 1 2 depart 1.p.1 2 2.a.1
-1 answer 1 3 post 1:2:0 port 1.p.1 plain =b
-1 answer 2 1 not-here 1.p.1
-1 answer 2 2 not-here 1.p.1
-2 answer 2 2 take 1.p.1 1:1:0
-1 verdict 1:1:0 accepted
-1 verdict 1:2:0 accepted
-1 port 1.p.1 2.a.1 1:1:0 1:2:0
-2 port 1.p.1 2.a.1 1:2:0
+1 2/2 answer 1 1 post 1:1:0 port 1.p.1 plain =a
+1 2/2 answer 1 2 depart 1.p.1 2 2.a.1
+1 2/2 answer 1 3 post 1:2:0 port 1.p.1 plain =b
+1 2/2 answer 2 1 not-here 1.p.1
+1 1/2 answer 2 2 not-here 1.p.1
+2 1/2 answer 2 2 take 1.p.1 1:1:0
+1 2/2 verdict 1:1:0 accepted
+1 2/2 verdict 1:2:0 accepted
+1 1/2 port 1.p.1 2.a.1 1:1:0 1:2:0
+2 1/2 port 1.p.1 2.a.1 1:2:0
 outcomes 2
+always 6
+answer 1 1 post 1:1:0 port 1.p.1 plain =a
+answer 1 2 depart 1.p.1 2 2.a.1
+answer 1 3 post 1:2:0 port 1.p.1 plain =b
+answer 2 1 not-here 1.p.1
+verdict 1:1:0 accepted
+verdict 1:2:0 accepted
+
 outcome 1
 histories 16
-answer 1 1 post 1:1:0 port 1.p.1 plain =a
-answer 1 2 depart 1.p.1 2 2.a.1
-answer 1 3 post 1:2:0 port 1.p.1 plain =b
-answer 2 1 not-here 1.p.1
 answer 2 2 not-here 1.p.1
-verdict 1:1:0 accepted
-verdict 1:2:0 accepted
 port 1.p.1 2.a.1 1:1:0 1:2:0
+
 outcome 2
 histories 17
-answer 1 1 post 1:1:0 port 1.p.1 plain =a
-answer 1 2 depart 1.p.1 2 2.a.1
-answer 1 3 post 1:2:0 port 1.p.1 plain =b
-answer 2 1 not-here 1.p.1
 answer 2 2 take 1.p.1 1:1:0
-verdict 1:1:0 accepted
-verdict 1:2:0 accepted
 port 1.p.1 2.a.1 1:2:0
+
 schedule 1
 step 1
 step 1
@@ -296,6 +289,7 @@ step 2
 deliver 1 2
 deliver 1 2
 deliver 2 1
+
 schedule 2
 step 1
 step 1
@@ -308,14 +302,15 @@ deliver 2 1
 end
 ";
 
-const MOVES_WITH_TEN_EVENTS: &str = "histories 0\nevents 10\nsome 3\nfacts 0\noutcomes 0\nend\n";
+const MOVES_WITH_TEN_EVENTS: &str =
+    "histories 0\nevents 10\nsome 3\nfacts 0\noutcomes 0\nalways 0\nend\n";
 
-const MOVES_WITH_NONE: &str = "histories 0\nevents 0\nsome 1\nfacts 0\noutcomes 0\nend\n";
+const MOVES_WITH_NONE: &str = "histories 0\nevents 0\nsome 1\nfacts 0\noutcomes 0\nalways 0\nend\n";
 
 const NOTHING: &str = "chorus 1\nsites 1\nschedule\nend\n";
 
 const NOTHING_MAY_COME: &str =
-    "histories 1\nevents 0\nall\nfacts 0\noutcomes 1\noutcome 1\nhistories 1\nschedule 1\nend\n";
+    "histories 1\nevents 0\nall\nfacts 0\noutcomes 1\nalways 0\n\noutcome 1\nhistories 1\n\nschedule 1\nend\n";
 
 /// Scenarios, each with how many events are carried out at most, and what is told.
 const RACES: [(&str, u32, &str); 7] = [

@@ -22,7 +22,7 @@ fn each_schedule_replays_to_its_outcome(rt: HostRuntime) {
     for race in RACES {
         let scenario = format!(in alloc; "{race}schedule\nend\n").expect(&rt, "memory");
         let text = told(&rt, alloc, MANY, scenario.as_str());
-        let mut schedules = text.as_str().split("\nschedule ");
+        let mut schedules = text.as_str().split("\n\nschedule ");
         let outcomes = schedules.next().expect(&rt, "a text");
         for schedule in schedules {
             assert_replays(&rt, alloc, race, outcomes, schedule);
@@ -56,6 +56,8 @@ fn summary_of(rt: &impl Abort, alloc: Global, outcomes: &str, number: &str) -> S
     for line in outcomes.lines() {
         if let Some(found) = line.strip_prefix("outcome ") {
             is_there = found == number;
+        } else if line.starts_with("always ") {
+            is_there = true;
         } else if is_there {
             accepted = accepted.wrapping_add(u64::from(line.ends_with(" accepted")));
             taken = taken.wrapping_add(u64::from(

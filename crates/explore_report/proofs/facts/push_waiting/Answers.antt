@@ -2,7 +2,7 @@ use Rattle.std.proofs.Common.{◌≡◌, ◌++◌, ◌∷◌, Some, None, slice_
 use Rattle.std.specs.Option.{option_copied}
 use Rattle.chorus_show.specs.Phrases.{spaced, id_text}
 use Rattle.explore_report.specs.Facts.{waiting_in}
-use Rattle.explore_report.proofs.Lines.{waiting-next, within-some}
+use Rattle.explore_report.proofs.More.{waiting-next, within-some}
 use Rattle.explore_report.proofs.facts.push_waiting.Goals as goal
 use Rattle.explore_report.proofs.facts.push_waiting.Goals.{in-Some+in_ok-push_message, in_default}
 

@@ -2,7 +2,7 @@ use Rattle.std.proofs.Common.{◌+◌, ◌++◌, drop, sym, ◌∙◌, ap, appen
 use Rattle.chorus_merge.specs.Steps.{journals_of}
 use Rattle.chorus_world.specs.Places.{copies}
 use Rattle.explore_report.specs.Outcomes.{lines_about, sent_lines}
-use Rattle.explore_report.proofs.Lines.{drop-some}
+use Rattle.explore_report.proofs.More.{drop-some}
 use Rattle.explore_report.proofs.outcomes.push_each_copy.Goals as goal
 
 pub loop-index-preserved : goal.loop-index-preserved

@@ -1,6 +1,6 @@
 use Rattle.std.proofs.Common.{◌+◌, ◌++◌, ◌∷◌, [], drop, sym, ◌∙◌, ap, append_assoc}
 use Rattle.chorus_world.specs.Places.{copies}
-use Rattle.explore_report.proofs.Lines.{drop-some}
+use Rattle.explore_report.proofs.More.{drop-some}
 use Rattle.chorus_explore.specs.AlikeSites.Journals.{ids_of}
 use Rattle.chorus_explore.proofs.alike_sites.journals.push_each.Goals as goal
 
