@@ -7,6 +7,8 @@ mod choosing;
 #[cfg(test)]
 mod crews;
 #[cfg(test)]
+mod diary;
+#[cfg(test)]
 mod ground;
 #[cfg(test)]
 mod handlers;
@@ -22,3 +24,5 @@ mod played_calls;
 mod serving;
 #[cfg(test)]
 mod sessions;
+#[cfg(test)]
+mod soaking;
