@@ -5,8 +5,8 @@ _chorus() {
     case $((COMP_CWORD - first)),${COMP_WORDS[first]-} in
     0,*) words="help version $([ "$first" = 2 ] || echo --unproved) $("$script" help | sed -n 's/^  \([a-z][a-z]*\) .*/\1/p' | sort -u)" ;;
     1,help) words=$("$script" help | sed -n 's/^  \([a-z][a-z]*\) .*/\1/p' | sort -u) ;;
-    1,audit | 1,picture | 1,page) words=16 ;;
-    2,audit | 2,picture | 2,page | 1,run) words='1 2 4' ;;
+    1,audit | 1,judge | 1,picture | 1,page) words=16 ;;
+    2,audit | 2,judge | 2,picture | 2,page | 1,run) words='1 2 4' ;;
     1,explore) words=--scenario ;;
     esac
     mapfile -t COMPREPLY < <(compgen -W "$words" -- "$word")

@@ -36,6 +36,7 @@ use Rattle.chorus_words.specs.declared.words.Words.TheVariants as words
 use Rattle.chorus_program.specs.declared.running.TheConstants.{PROGRAM_SITES}
 use Rattle.chorus_program.specs.Running.{layout_asked, places_each, replay_layout, Does, DoesOnOneThread, EndsAsAudit, EndsAsExplored, EndsAsLossy, EndsAsPicture, EndsUnreadAsLoad, EndsWithCause, Suits}
 use Rattle.chorus_program.specs.Started.{DoesOnOwn, DoesOnStarted}
+use Rattle.chorus_program.specs.Judged.{layout_judged}
 
 -- Causes.
 
@@ -159,36 +160,40 @@ module _ {S K : Type 0} (f : Finished) (is : f ≡ record { status = Memory; clo
     };
   }
 
-  one-thread-none : (asked : Words) → layout_asked asked ≡ None → DoesOnOneThread asked f left faults reliable from from held failures old old
-  one-thread-none words.Replay same = replays-none
-  one-thread-none words.Run same = cc
-  one-thread-none (words.RunOn turns) same = cc
-  one-thread-none (words.Load first commands) same = record { unread = refl; loads = loads-none f is held failures old first commands }
-  one-thread-none (words.Audit sites turns) same = audits-none (places_each sites turns)
-  one-thread-none (words.Picture sites turns) same = draws-none (places_each sites turns)
-  one-thread-none (words.Lossy first) same = carries-none first
-  one-thread-none (words.Crew first commands) same = cc
-  one-thread-none words.Explore same = explores-none EXPLORE_MOST
-  one-thread-none (words.ExploreMost most) same = explores-none most
+  one-thread-none : (asked : Words) → layout_asked asked ≡ None → layout_judged asked ≡ None → DoesOnOneThread asked f left faults reliable from from held failures old old
+  one-thread-none words.Replay same none = replays-none
+  one-thread-none words.Run same none = cc
+  one-thread-none (words.RunOn turns) same none = cc
+  one-thread-none (words.Load first commands) same none = record { unread = refl; loads = loads-none f is held failures old first commands }
+  one-thread-none (words.Audit sites turns) same none = audits-none (places_each sites turns)
+  one-thread-none words.Judge same none = cc
+  one-thread-none (words.JudgeFor sites turns) same none = cc
+  one-thread-none (words.Picture sites turns) same none = draws-none (places_each sites turns)
+  one-thread-none (words.Lossy first) same none = carries-none first
+  one-thread-none (words.Crew first commands) same none = cc
+  one-thread-none words.Explore same none = explores-none EXPLORE_MOST
+  one-thread-none (words.ExploreMost most) same none = explores-none most
 
-  pub does-none : (n : Nucleus) (asked : Words) → Does n asked f left faults reliable from from held failures old old
-  does-none n words.Run = runs-none n
-  does-none n (words.RunOn turns) = runs-none n
-  does-none n (words.Crew first commands) = record { unread = refl; crews = crews-none f is held failures old n first commands }
-  does-none n words.Replay = one-thread-none words.Replay refl
-  does-none n (words.Load first commands) = one-thread-none (words.Load first commands) refl
-  does-none n (words.Audit sites turns) = one-thread-none (words.Audit sites turns) refl
-  does-none n (words.Picture sites turns) = one-thread-none (words.Picture sites turns) refl
-  does-none n (words.Lossy first) = one-thread-none (words.Lossy first) refl
-  does-none n words.Explore = one-thread-none words.Explore refl
-  does-none n (words.ExploreMost most) = one-thread-none (words.ExploreMost most) refl
+  pub does-none : (n : Nucleus) (asked : Words) → layout_judged asked ≡ None → Does n asked f left faults reliable from from held failures old old
+  does-none n words.Run none = runs-none n
+  does-none n (words.RunOn turns) none = runs-none n
+  does-none n (words.Crew first commands) none = record { unread = refl; crews = crews-none f is held failures old n first commands }
+  does-none n words.Replay none = one-thread-none words.Replay refl none
+  does-none n (words.Load first commands) none = one-thread-none (words.Load first commands) refl none
+  does-none n (words.Audit sites turns) none = one-thread-none (words.Audit sites turns) refl none
+  does-none n words.Judge none = cc
+  does-none n (words.JudgeFor sites turns) none = cc
+  does-none n (words.Picture sites turns) none = one-thread-none (words.Picture sites turns) refl none
+  does-none n (words.Lossy first) none = one-thread-none (words.Lossy first) refl none
+  does-none n words.Explore none = one-thread-none words.Explore refl none
+  does-none n (words.ExploreMost most) none = one-thread-none (words.ExploreMost most) refl none
 
-  started-none : (asked : Words) (o : Option Layout) → layout_asked asked ≡ o → DoesOnStarted o asked f left faults reliable from from held failures old old
-  started-none asked None o-is = one-thread-none asked o-is
-  started-none asked (Some l) o-is = inl (record { status = ap (λ (x : Finished). x.status) is; unread = refl; unwritten = refl })
+  started-none : (asked : Words) (o : Option Layout) → layout_asked asked ≡ o → layout_judged asked ≡ None → DoesOnStarted o asked f left faults reliable from from held failures old old
+  started-none asked None o-is none = one-thread-none asked o-is none
+  started-none asked (Some l) o-is none = inl (record { status = ap (λ (x : Finished). x.status) is; unread = refl; unwritten = refl })
 
-  pub own-none : (asked : Words) → DoesOnOwn asked f left faults reliable from from held failures old old
-  own-none asked = started-none asked (layout_asked asked) refl
+  pub own-none : (asked : Words) → layout_judged asked ≡ None → DoesOnOwn asked f left faults reliable from from held failures old old
+  own-none asked none = started-none asked (layout_asked asked) refl none
 
 -- a replay on sites of a layout is one on those of an equal one
 pub replays-at : {S K : Type 0} (l m : Layout) (f : Finished) (left : S → Option (List ℕ)) (faults : S → ℕ) (reliable : S → Type 0) (from rest : S) (held : K → Option (List ℕ)) (failures : K → ℕ) (old new : K) → l ≡ m → EndsAsReplay l f left faults reliable from rest held failures old new → EndsAsReplay m f left faults reliable from rest held failures old new
@@ -203,6 +208,8 @@ module _ {S K : Type 0} (f : Finished) (left : S → Option (List ℕ)) (faults 
   no-usage-on-one (words.RunOn turns) d is = d
   no-usage-on-one (words.Load first commands) d is = subst EndsUnread is d.loads.status
   no-usage-on-one (words.Audit sites turns) d is = subst (λ s. ReadsBy s (left from) (left rest)) is d.reads
+  no-usage-on-one words.Judge d is = d
+  no-usage-on-one (words.JudgeFor sites turns) d is = d
   no-usage-on-one (words.Picture sites turns) d is = subst (λ s. picture.ReadsBy (places_each sites turns) s (left from) (left rest)) is d.reads
   no-usage-on-one (words.Crew first commands) d is = d
   no-usage-on-one words.Explore d is = d.explores.reads.usage is
@@ -216,6 +223,8 @@ module _ {S K : Type 0} (f : Finished) (left : S → Option (List ℕ)) (faults 
   with-any n (words.RunOn turns) d = absurd d
   with-any n (words.Load first commands) d = d
   with-any n (words.Audit sites turns) d = d
+  with-any n words.Judge d = d
+  with-any n (words.JudgeFor sites turns) d = d
   with-any n (words.Picture sites turns) d = d
   with-any n (words.Lossy first) d = d
   with-any n (words.Crew first commands) d = absurd d
@@ -229,6 +238,8 @@ module _ {S K : Type 0} (f : Finished) (left : S → Option (List ℕ)) (faults 
   no-usage n words.Replay d is = no-usage-on-one words.Replay d is
   no-usage n (words.Load first commands) d is = no-usage-on-one (words.Load first commands) d is
   no-usage n (words.Audit sites turns) d is = no-usage-on-one (words.Audit sites turns) d is
+  no-usage n words.Judge d is = no-usage-on-one words.Judge d is
+  no-usage n (words.JudgeFor sites turns) d is = no-usage-on-one (words.JudgeFor sites turns) d is
   no-usage n (words.Picture sites turns) d is = no-usage-on-one (words.Picture sites turns) d is
   no-usage n (words.Lossy first) d is = no-usage-on-one (words.Lossy first) d is
   no-usage n words.Explore d is = no-usage-on-one words.Explore d is
@@ -242,12 +253,6 @@ module _ {S K : Type 0} (f : Finished) (left : S → Option (List ℕ)) (faults 
   pub own-no-usage : (asked : Words) → DoesOnOwn asked f left faults reliable from rest held failures old new → f.status ≡ Status.Usage → ⊥
   own-no-usage asked d is = no-usage-on asked (layout_asked asked) d is
 
-  pub does-same : (n : Nucleus) (asked other : Words) → asked ≡ other → Does n asked f left faults reliable from rest held failures old new → Does n other f left faults reliable from rest held failures old new
-  does-same n asked other same d = subst (λ (w : Words). Does n w f left faults reliable from rest held failures old new) same d
-
-  pub own-same : (asked other : Words) → asked ≡ other → DoesOnOwn asked f left faults reliable from rest held failures old new → DoesOnOwn other f left faults reliable from rest held failures old new
-  own-same asked other same d = subst (λ (w : Words). DoesOnOwn w f left faults reliable from rest held failures old new) same d
-
   -- what is done on what was started for it
   pub on-started : (asked : Words) (o : Option Layout) → o ≡ layout_asked asked → DoesOnStarted o asked f left faults reliable from rest held failures old new → DoesOnOwn asked f left faults reliable from rest held failures old new
   on-started asked o same d = subst (λ (x : Option Layout). DoesOnStarted x asked f left faults reliable from rest held failures old new) same d
@@ -259,6 +264,8 @@ suits n words.Run same = tt
 suits n (words.RunOn turns) same = let is : layout_of n ≡ places_each PROGRAM_SITES turns = cc in sym (ap (λ (l : Layout). l.turns) is)
 suits n (words.Load first commands) same = tt
 suits n (words.Audit sites turns) same = tt
+suits n words.Judge same = tt
+suits n (words.JudgeFor sites turns) same = tt
 suits n (words.Picture sites turns) same = tt
 suits n (words.Lossy first) same = tt
 suits n words.Explore same = tt

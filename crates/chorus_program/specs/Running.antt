@@ -10,7 +10,6 @@ use Rattle.chorus_picture.specs.Output as picture
 use Rattle.chorus_picture.specs.Output.{Draws}
 use Rattle.chorus_explore.specs.Ends.{EndsAsExplore}
 use Rattle.chorus_lossy.specs.Output.{CarriesInput}
-use Rattle.chorus_show.specs.declared.status.Status.{Status}
 use Rattle.chorus_show.specs.declared.status.Status.TheVariants.{Done, Usage, ReadFault, WriteFault, Memory, Worn}
 use Rattle.chorus_nucleus.specs.declared.nucleus.Nucleus.{Nucleus}
 use Rattle.chorus_nucleus.specs.Passes.{layout_of}
@@ -26,6 +25,7 @@ use Rattle.chorus_words.specs.declared.words.TheConstants.{EXPLORE_MOST}
 use Rattle.chorus_words.specs.declared.words.Words.{Words}
 use Rattle.chorus_words.specs.declared.words.Words.TheVariants as words
 use Rattle.chorus_words.specs.Words.{Ask}
+use Rattle.chorus_program.specs.declared.ending.ProgramEnd.{ProgramEnd}
 use Rattle.chorus_program.specs.declared.running.TheConstants.{PROGRAM_SITES}
 
 -- so many sites, with so many places each
@@ -54,9 +54,10 @@ AskOf n spelled asked = Ask spelled asked × Suits n asked
 abbrev pub AskNothingOf : Nucleus → List (List ℕ) → Type 0
 AskNothingOf n spelled = (asked : Words) → ¬ (AskOf n spelled asked)
 
--- words that ask nothing are Usage; want of memory for them is the one other ending
-abbrev pub IsTurnedAway : Status → Type 0
-IsTurnedAway status = (status ≡ Usage) ⊎ (status ≡ Memory)
+-- words that ask nothing are Usage; want of memory for them is the one other ending. Nothing is judged
+abbrev pub IsTurnedAway : ProgramEnd → Type 0
+IsTurnedAway ended =
+    ((ended.finished.status ≡ Usage) ⊎ (ended.finished.status ≡ Memory)) × (ended.judged ≡ None)
 
 -- nothing was closed, and the line of the verdict on what was read was written
 pub record EndsAsAudit (l : Layout) (finished : Finished) (left rest old new : Option (List ℕ)) : Type 0 where
@@ -100,7 +101,7 @@ layout_asked (words.RunOn turns) = Some (places_each PROGRAM_SITES turns)
 layout_asked (words.Crew first commands) = Some (places_each PROGRAM_SITES 1)
 layout_asked asked = None
 
--- what the words do that use no nucleus; no other words are done so
+-- what the words do that use no nucleus and judge nothing; no other words are done so
 abbrev pub DoesOnOneThread : {S K : Type 0} → Words → Finished
     → (S → Option (List ℕ)) → (S → ℕ) → (S → Type 0) → S → S
     → (K → Option (List ℕ)) → (K → ℕ) → K → K → Type 0
@@ -120,7 +121,7 @@ DoesOnOneThread (words.ExploreMost most) finished left faults reliable from rest
     EndsAsExplored most finished left faults reliable from rest held failures old new
 DoesOnOneThread asked finished left faults reliable from rest held failures old new = ⊥
 
--- what the words do
+-- what the words do that judge nothing
 abbrev pub Does : {S K : Type 0} → Nucleus → Words → Finished
     → (S → Option (List ℕ)) → (S → ℕ) → (S → Type 0) → S → S
     → (K → Option (List ℕ)) → (K → ℕ) → K → K → Type 0

@@ -32,7 +32,7 @@ DoesOnStarted (Some l) asked finished left faults reliable from rest held failur
     ⊎ ((n : Nucleus) × (layout_of n ≡ l) ×
     Does n asked finished left faults reliable from rest held failures old new)
 
--- what the words do, on what is started for them
+-- what the words do that judge nothing, on what is started for them
 abbrev pub DoesOnOwn : {S K : Type 0} → Words → Finished
     → (S → Option (List ℕ)) → (S → ℕ) → (S → Type 0) → S → S
     → (K → Option (List ℕ)) → (K → ℕ) → K → K → Type 0

@@ -1,26 +1,67 @@
 //! How the program ended, for the one who started it.
 
-ghost use Rattle.std.specs.Prelude.{◌≡◌, ◌≢◌, ◌≤◌, ◌++◌, OnOk, OnErr, decimal};
+ghost use Rattle.std.specs.Prelude.{◌≡◌, ◌≢◌, ◌≤◌, ◌++◌, None, OnOk, OnErr, decimal};
 ghost use Rattle.std.specs.Io.KnownBytes.{Appends};
 ghost use Rattle.std.specs.IoError.{error_kind};
 ghost use Rattle.chorus_io.specs.Bytes.{AppendsPrefix};
 ghost use Rattle.chorus_io.specs.Count.{Rose};
-ghost use Rattle.chorus_show.specs.Faults.{fault_line, status_number};
+ghost use Rattle.chorus_show.specs.Faults.{fault_line};
 ghost use Rattle.chorus_program.specs.Ending.{IsSaid};
+ghost use Rattle.chorus_program.specs.Judged.{end_as, exit_number};
 
+use crate::one_thread::closed_nothing;
 use chorus_io::{Failed, Sink, write_all};
+use chorus_judge::Judgement;
+use chorus_report::Finished;
 use chorus_show::Status;
 use std::io::{self, ErrorKind};
 
-/// The exit status of the program. Where it is not 0, the line that says what went wrong goes to the sink for errors; a line that
-/// cannot be written changes no exit status. Takes no memory but what the sink takes.
-pub fn ended<K: Sink>(status: Status, errors: &mut K) -> u8
-    ensures number { result ≡ status_number status }
+/// How the program ended.
+#[derive(Drop)]
+pub struct ProgramEnd {
+    /// Whether it did all, or why it did not, and what was closed.
+    pub finished: Finished,
+    /// What a journal was judged to be: Some exactly where the word `judge` did all. With any other word it is None.
+    pub judged: Option<Judgement>,
+}
+
+/// The end of the program by words that judge nothing.
+pub(crate) fn unjudged(finished: Finished) -> ProgramEnd
+    ensures { result ≡ record { finished = finished; judged = None } }
+{
+    ProgramEnd {
+        finished,
+        judged: None,
+    }
+}
+
+/// The end of the program with this status, where nothing was judged or closed.
+pub(crate) fn end_as(status: Status) -> ProgramEnd
+    ensures { result ≡ end_as status }
+{
+    unjudged(closed_nothing(status))
+}
+
+/// The exit status of the program: where all was done and a journal was judged, the number of that judgement, else that of the
+/// status. Where the status is not Done, the line that says what went wrong goes to the sink for errors; a line that cannot be written
+/// changes no exit status. Takes no memory but what the sink takes.
+pub fn ended<K: Sink>(status: Status, judged: Option<Judgement>, errors: &mut K) -> u8
+    ensures number { result ≡ exit_number status judged }
     ensures line { IsSaid status (K.held errors.old) (K.held errors.new)
         (K.faults errors.old) (K.faults errors.new) }
 {
     let _ = say(status, errors);
-    status.number()
+    exit_number(status, judged)
+}
+
+/// The number of what was judged where all was done, else that of the status.
+fn exit_number(status: Status, judged: Option<Judgement>) -> u8
+    ensures { result ≡ exit_number status judged }
+{
+    match (status, judged) {
+        (Status::Done, Some(judgement)) => judgement.number(),
+        _ => status.number(),
+    }
 }
 
 /// How the program ends that got no words: there was no memory for them, or one of them is no text.

@@ -9,13 +9,14 @@
 #![tactic(auto)]
 
 mod ending;
+mod judging;
 mod one_thread;
 mod own_nucleus;
 mod printed_is_legal;
 mod running;
 mod standard;
 
-pub use ending::{ended, without_words};
+pub use ending::{ProgramEnd, ended, without_words};
 pub use own_nucleus::start_program;
 pub use printed_is_legal::what_is_printed_is_legal;
 pub use running::{PROGRAM_SITES, program};

@@ -1,12 +1,15 @@
 //! The program with a nucleus that is started for the words that use one.
 
-ghost use Rattle.std.specs.Prelude.{◌≡◌, map};
+ghost use Rattle.std.specs.Prelude.{◌≡◌, map, None};
 ghost use Rattle.chorus_words.specs.declared.words.Words.{Words};
 ghost use Rattle.chorus_words.specs.Words.{Ask, IsTurns, IsWithin};
 ghost use Rattle.chorus_program.specs.declared.running.TheConstants.{PROGRAM_SITES};
 ghost use Rattle.chorus_program.specs.Running.{layout_asked, places_each, EndsWithCause, IsTurnedAway};
 ghost use Rattle.chorus_program.specs.Started.{AskNothing, DoesOnOwn};
+ghost use Rattle.chorus_program.specs.Judged.{layout_judged, EndsOnOwn};
 
+use crate::ending::{ProgramEnd, end_as, unjudged};
+use crate::judging::{judge_for, layout_judged};
 use crate::one_thread::{closed_nothing, does_on_one_thread};
 use crate::running::{PROGRAM_SITES, does};
 use chorus_io::{Sink, Source};
@@ -29,21 +32,41 @@ pub fn start_program<'a, R: Threads + Wait + Sync, S: Source, K: Sink>(
     words: &'a [&'a str],
     source: &mut S,
     sink: &mut K,
-) -> Finished
-    ensures usage { result.status ≡ Status.Usage →
+) -> ProgramEnd
+    ensures usage { result.finished.status ≡ Status.Usage →
         AskNothing (map (λ word. word.now) words.now) }
     ensures unlisted { AskNothing (map (λ word. word.now) words.now) →
-        IsTurnedAway result.status × (source.new ≡ source.old) × (sink.new ≡ sink.old) }
+        IsTurnedAway result × (source.new ≡ source.old) × (sink.new ≡ sink.old) }
     ensures does { (asked : Words) → Ask (map (λ word. word.now) words.now) asked →
-        DoesOnOwn asked result S.left S.faults S.reliable source.old source.new
+        EndsOnOwn asked result S.left S.faults S.reliable source.old source.new
         K.held K.faults sink.old sink.new }
-    ensures causes { EndsWithCause result S.faults S.reliable source.old source.new
+    ensures causes { EndsWithCause result.finished S.faults S.reliable source.old source.new
         K.faults sink.old sink.new }
 {
     match read_words(alloc, words) {
-        Ok(Some(asked)) => does_on_own(alloc, rt, asked, source, sink),
-        Ok(None) => closed_nothing(Status::Usage),
-        Err(_) => closed_nothing(Status::Memory),
+        Ok(Some(asked)) => ends_on_own(alloc, rt, asked, source, sink),
+        Ok(None) => end_as(Status::Usage),
+        Err(_) => end_as(Status::Memory),
+    }
+}
+
+/// Ends as the program's words ask: a journal is judged, or what they ask is done on what is started for it.
+fn ends_on_own<R: Threads + Wait + Sync, S: Source, K: Sink>(
+    alloc: Global,
+    rt: &R,
+    asked: Words,
+    source: &mut S,
+    sink: &mut K,
+) -> ProgramEnd
+    requires { IsWithin asked }
+    ensures does { EndsOnOwn asked result S.left S.faults S.reliable source.old source.new
+        K.held K.faults sink.old sink.new }
+    ensures causes { EndsWithCause result.finished S.faults S.reliable source.old source.new
+        K.faults sink.old sink.new }
+{
+    match layout_judged(asked) {
+        Some(layout) => judge_for(alloc, layout, source, sink),
+        None => unjudged(does_on_own(alloc, rt, asked, source, sink)),
     }
 }
 
@@ -55,7 +78,8 @@ fn does_on_own<R: Threads + Wait + Sync, S: Source, K: Sink>(
     source: &mut S,
     sink: &mut K,
 ) -> Finished
-    requires { IsWithin asked }
+    requires within { IsWithin asked }
+    requires unjudged { layout_judged asked ≡ None }
     ensures does { DoesOnOwn asked result S.left S.faults S.reliable source.old source.new
         K.held K.faults sink.old sink.new }
     ensures causes { EndsWithCause result S.faults S.reliable source.old source.new

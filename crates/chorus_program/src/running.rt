@@ -1,13 +1,16 @@
 //! What the program does, by its words.
 
-ghost use Rattle.std.specs.Prelude.{◌≡◌, map, IfOk, IfSome, Some};
+ghost use Rattle.std.specs.Prelude.{◌≡◌, map, IfOk, IfSome, None, Some};
 ghost use Rattle.chorus_words.specs.declared.words.Words.{Words};
 ghost use Rattle.chorus_words.specs.Words.{IsWithin};
 ghost use Rattle.chorus_nucleus.specs.Passes.{IsPassOf};
 ghost use Rattle.chorus_perform.specs.Scripts.{IsOpening};
 ghost use Rattle.chorus_program.specs.Running.{AskNothingOf, AskOf, Does, EndsWithCause, IsTurnedAway, Suits};
+ghost use Rattle.chorus_program.specs.Judged.{end_as, layout_judged, Ends};
 
-use crate::one_thread::{closed_nothing, does_on_one_thread};
+use crate::ending::{ProgramEnd, end_as, unjudged};
+use crate::judging::{judge_for, layout_judged};
+use crate::one_thread::does_on_one_thread;
 use chorus_io::{Sink, Source};
 use chorus_nucleus::{Nucleus, Pass};
 use chorus_report::Finished;
@@ -24,7 +27,7 @@ pub const PROGRAM_SITES: u16 = 16;
 /// Does what the words say: `replay` replays the scenario that the source gives, and `load FIRST COMMANDS` performs the
 /// commands that are drawn, both on sites that are started for it; `run` performs the scenario on the running threads of the nucleus,
 /// and so does `run TURNS` where its sites have so many places; `audit SITES TURNS` audits the printed journal that the source gives,
-/// and `picture SITES TURNS` draws it;
+/// `judge SITES TURNS` judges it, `judge` alone does for the sites of a replay, and `picture SITES TURNS` draws it;
 /// `lossy FIRST` carries what the source gives over a line that loses; `crew FIRST COMMANDS` sends what the draws give to ports of the
 /// nucleus, where it has at least 8 sites, and prints what a crew handled there; `explore` tells what may come of the scenario that the
 /// source gives, by any schedule, with at most [`EXPLORE_MOST`](chorus_words::EXPLORE_MOST) events carried out, and `explore MOST` with at
@@ -41,21 +44,21 @@ pub fn program<'a, R: Threads + Wait + Sync, S: Source, K: Sink, G: Gate>(
     nucleus: Nucleus,
     pass: Pass,
     gate: &G,
-) -> Finished
+) -> ProgramEnd
     requires pass { IsPassOf nucleus pass }
     requires opening { IsOpening pass }
-    ensures usage { result.status ≡ Status.Usage →
+    ensures usage { result.finished.status ≡ Status.Usage →
         AskNothingOf nucleus (map (λ word. word.now) words.now) }
     ensures unlisted { AskNothingOf nucleus (map (λ word. word.now) words.now) →
-        IsTurnedAway result.status × (source.new ≡ source.old) × (sink.new ≡ sink.old) }
+        IsTurnedAway result × (source.new ≡ source.old) × (sink.new ≡ sink.old) }
     ensures does { (asked : Words) → AskOf nucleus (map (λ word. word.now) words.now) asked →
-        Does nucleus asked result S.left S.faults S.reliable source.old source.new
+        Ends nucleus asked result S.left S.faults S.reliable source.old source.new
         K.held K.faults sink.old sink.new }
-    ensures causes { EndsWithCause result S.faults S.reliable source.old source.new
+    ensures causes { EndsWithCause result.finished S.faults S.reliable source.old source.new
         K.faults sink.old sink.new }
 {
     match asked_of(alloc, words, &nucleus) {
-        Ok(Some(asked)) => does(alloc, rt, asked, source, sink, nucleus, pass, gate),
+        Ok(Some(asked)) => ends(alloc, rt, asked, source, sink, nucleus, pass, gate),
         Ok(None) => turn_away(rt, nucleus, pass, Status::Usage),
         Err(_) => turn_away(rt, nucleus, pass, Status::Memory),
     }
@@ -103,16 +106,45 @@ fn if_it_suits(nucleus: &Nucleus, asked: Words) -> Option<Words>
 }
 
 /// Closes the nucleus, and ends with this status before anything was read.
-fn turn_away<R: Wait>(rt: &R, nucleus: Nucleus, pass: Pass, status: Status) -> Finished
+fn turn_away<R: Wait>(rt: &R, nucleus: Nucleus, pass: Pass, status: Status) -> ProgramEnd
     requires pass { IsPassOf nucleus pass }
     requires opening { IsOpening pass }
-    ensures { result ≡ record { status = status; closed = None } }
+    ensures { result ≡ end_as status }
 {
     close_unused(rt, nucleus, pass);
-    closed_nothing(status)
+    end_as(status)
 }
 
-/// Does what the program's words ask. Where that uses no nucleus, this one is closed first.
+/// Ends as the program's words ask: a journal is judged, for which this nucleus is closed first, or what they ask is done.
+fn ends<R: Threads + Wait + Sync, S: Source, K: Sink, G: Gate>(
+    alloc: Global,
+    rt: &R,
+    asked: Words,
+    source: &mut S,
+    sink: &mut K,
+    nucleus: Nucleus,
+    pass: Pass,
+    gate: &G,
+) -> ProgramEnd
+    requires within { IsWithin asked }
+    requires suits { Suits nucleus asked }
+    requires pass { IsPassOf nucleus pass }
+    requires opening { IsOpening pass }
+    ensures does { Ends nucleus asked result S.left S.faults S.reliable source.old source.new
+        K.held K.faults sink.old sink.new }
+    ensures causes { EndsWithCause result.finished S.faults S.reliable source.old source.new
+        K.faults sink.old sink.new }
+{
+    match layout_judged(asked) {
+        Some(layout) => {
+            close_unused(rt, nucleus, pass);
+            judge_for(alloc, layout, source, sink)
+        }
+        None => unjudged(does(alloc, rt, asked, source, sink, nucleus, pass, gate)),
+    }
+}
+
+/// Does what the program's words ask, where nothing is judged. Where that uses no nucleus, this one is closed first.
 pub(crate) fn does<R: Threads + Wait + Sync, S: Source, K: Sink, G: Gate>(
     alloc: Global,
     rt: &R,
@@ -125,6 +157,7 @@ pub(crate) fn does<R: Threads + Wait + Sync, S: Source, K: Sink, G: Gate>(
 ) -> Finished
     requires within { IsWithin asked }
     requires suits { Suits nucleus asked }
+    requires unjudged { layout_judged asked ≡ None }
     requires pass { IsPassOf nucleus pass }
     requires opening { IsOpening pass }
     ensures does { Does nucleus asked result S.left S.faults S.reliable source.old source.new

@@ -70,6 +70,14 @@ fn asked_by(what: Option<&str>, first: Option<&str>, second: Option<&str>) -> Op
                 turns: layout.turns(),
             })
         }
+        ("judge", None, None) => Some(Words::Judge),
+        ("judge", Some(sites), Some(turns)) => {
+            let layout = layout_of(sites, turns)?;
+            Some(Words::JudgeFor {
+                sites: layout.sites(),
+                turns: layout.turns(),
+            })
+        }
         ("picture", Some(sites), Some(turns)) => {
             let layout = layout_of(sites, turns)?;
             Some(Words::Picture {

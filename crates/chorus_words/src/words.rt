@@ -19,6 +19,10 @@ pub enum Words {
     Load { first: u64, commands: u32 },
     /// `audit SITES TURNS`: a printed journal is audited, for so many sites with so many places each: a layout that exists.
     Audit { sites: u16, turns: u16 },
+    /// `judge`: a printed journal is judged, for 16 sites of one place each.
+    Judge,
+    /// `judge SITES TURNS`: so it is for a layout as of an audit.
+    JudgeFor { sites: u16, turns: u16 },
     /// `picture SITES TURNS`: a printed journal is drawn, for a layout as of an audit.
     Picture { sites: u16, turns: u16 },
     /// `lossy FIRST`: the input is carried over a line whose losses are drawn from the first state on.

@@ -10,6 +10,7 @@ use crate::crews::FEW;
 use crate::ground::{Run, assert_same, sink_of, source_of, text_in};
 use crate::words::LOADS_ONE_COMMAND;
 use chorus_io::{Sink, Source};
+use chorus_judge::Judgement;
 use chorus_nucleus::{Nucleus, Pass};
 use chorus_program::program;
 use chorus_run::OpenGate;
@@ -38,17 +39,18 @@ pub(crate) fn started<R: Abort + Threads + Wait + Sync>(
     (nucleus, pass)
 }
 
-/// Hands such a nucleus to the program, with these words over this source and sink, and gives the status with which it ends.
-fn status_with<R: Abort + Threads + Wait + Sync, S: Source, K: Sink>(
+/// Hands such a nucleus to the program, with these words over this source and sink, and gives how it ends.
+fn end_with<R: Abort + Threads + Wait + Sync, S: Source, K: Sink>(
     rt: &R,
     alloc: Global,
     places: (u16, u16),
     words: &[&str],
     source: &mut S,
     sink: &mut K,
-) -> Status {
+) -> (Status, Option<Judgement>) {
     let (nucleus, pass) = started(rt, alloc, places.0, places.1);
-    program(alloc, rt, words, source, sink, nucleus, pass, &OpenGate).status
+    let end = program(alloc, rt, words, source, sink, nucleus, pass, &OpenGate);
+    (end.finished.status, end.judged)
 }
 
 /// What the program does for these words and this input with a nucleus of so many sites and places.
@@ -61,9 +63,10 @@ fn run_with(
 ) -> Run {
     let mut source = source_of(rt, alloc, input);
     let mut sink = sink_of(rt, alloc, 64, &[]);
-    let status = status_with(rt, alloc, places, words, &mut source, &mut sink);
+    let (status, judged) = end_with(rt, alloc, places, words, &mut source, &mut sink);
     Run {
         status,
+        judged,
         written: text_in(rt, alloc, &sink),
     }
 }
