@@ -210,7 +210,7 @@ module _ (n : Nucleus) (q : Ui) (old new : Pass) where
   answered r h = is-answer (layout_of n) (place_of n (Command.Take q) old) q r (known old) (known new) (caller_of old) (caller_of new) h.turn
 
   pub taken : (pos : ℕ) (m : Message) (settled : Option Settle) → IsCall n (Command.Take q) old new (Ok (Reply.Taken pos m settled))
-      → IsTake n q (Ok (Some record { position = pos; message = m; settled = settled })) old new
+      → IsTake n q (Ok (Some record { position = pos; message = m; settled = settled; by_take = record {} })) old new
   taken pos m settled h = let r = Reply.Taken pos m settled in
       record {
         keeps = kept (Ok r) h (sees-ok r h);
@@ -220,7 +220,7 @@ module _ (n : Nucleus) (q : Ui) (old new : Pass) where
           origin = origin (layout_of n) (place_of n (Command.Take q) old) q r (known old) (known new) (caller_of old) (caller_of new) h.turn;
         };
         fault = tt;
-        worn = worn-as r (Some record { position = pos; message = m; settled = settled }) h;
+        worn = worn-as r (Some record { position = pos; message = m; settled = settled; by_take = record {} }) h;
       }
 
   pub empty : IsCall n (Command.Take q) old new (Ok Reply.Empty) → IsTake n q (Ok None) old new

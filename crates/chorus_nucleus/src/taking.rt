@@ -7,7 +7,7 @@ ghost use Rattle.chorus_nucleus.specs.Taking.{IsTake, is_busy};
 use crate::fault::CallFault;
 use crate::nucleus::Nucleus;
 use crate::pass::Pass;
-use crate::taken_message::TakenMessage;
+use crate::taken_message::{ByTake, TakenMessage};
 use chorus_ui::Ui;
 use law_machine::Reply;
 use std::sync::Wait;
@@ -37,6 +37,7 @@ pub fn take_once(
             position: pos,
             message,
             settled,
+            by_take: ByTake,
         })),
         Ok(Reply::Empty) => Ok(None),
         Ok(Reply::NotHere) => Ok(None),
