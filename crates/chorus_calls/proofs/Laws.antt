@@ -2,15 +2,14 @@
 use Rattle.std.proofs.Common.{◌≡◌, ℕ, ◌+◌, ◌<◌, ◌≤◌, true, cond, List, [], ◌∷◌, Option, Some, None, refl, arith}
 use Rattle.std.proofs.lemmas.Bool.Decides.{nat_tests}
 use Rattle.chorus_calls.specs.Clients.{Call, Calling, has_number}
-use Rattle.chorus_calls.specs.Law.{Event, Begin, Reply, Cancel, happens, client_after, gives, settles, times_given, times_settled}
+use Rattle.chorus_calls.specs.Law.{Event, Begin, Reply, Cancel, happens, client_after, gives, settles, times_given, times_settled, SettlesOnce}
 
 -- of a client with this outstanding call and this many numbers given, of which each was given and settled so often
-pub record Holds (call : Option Call) (last : ℕ) (given settled : ℕ → ℕ) : Type 0 where
-  pub latest : (n : ℕ) → has_number n call ≡ true → n ≡ last
-  pub none_ahead : (n : ℕ) → last < n → given n ≡ 0
-  pub once : (n : ℕ) → given n ≤ 1
-  pub behind : (n : ℕ) → settled n ≤ given n
-  pub fresh : (n : ℕ) → has_number n call ≡ true → settled n < given n
+record Holds (call : Option Call) (last : ℕ) (given settled : ℕ → ℕ) : Type 0 where
+  latest : (n : ℕ) → has_number n call ≡ true → n ≡ last
+  none_ahead : (n : ℕ) → last < n → given n ≡ 0
+  once : (n : ℕ) → given n ≤ 1
+  balanced : (n : ℕ) → given n ≡ settled n + cond (has_number n call) 1 0
 
 abbrev HoldsOf : Calling → (ℕ → ℕ) → (ℕ → ℕ) → Type 0
 HoldsOf c given settled = Holds c.outstanding c.given given settled
@@ -22,36 +21,31 @@ step (Begin port back body) None last given settled h = record {
   latest = λ n e. grind (arith, nat_tests);
   none_ahead = λ n l. grind (arith, nat_tests, h.none_ahead n);
   once = λ n. grind (arith, nat_tests, h.none_ahead n, h.once n);
-  behind = λ n. omega (arith, h.behind n);
-  fresh = λ n e. grind (arith, nat_tests, h.none_ahead n, h.behind n);
+  balanced = λ n. omega (arith, h.balanced n);
 }
 step (Begin port back body) (Some call) last given settled h = record {
   latest = h.latest;
   none_ahead = λ n l. omega (arith, h.none_ahead n l);
   once = λ n. omega (arith, h.once n);
-  behind = λ n. omega (arith, h.behind n);
-  fresh = λ n e. omega (arith, h.fresh n e);
+  balanced = λ n. omega (arith, h.balanced n);
 }
 step (Reply number) None last given settled h = record {
   latest = λ n e. grind (arith, nat_tests);
   none_ahead = λ n l. grind (arith, nat_tests, h.none_ahead n);
   once = λ n. grind (arith, nat_tests, h.once n);
-  behind = λ n. grind (arith, nat_tests, h.behind n);
-  fresh = λ n e. grind (arith, nat_tests);
+  balanced = λ n. grind (arith, nat_tests, h.balanced n);
 }
 step (Reply number) (Some call) last given settled h = record {
   latest = λ n e. grind (arith, nat_tests, h.latest n);
   none_ahead = λ n l. grind (arith, nat_tests, h.none_ahead n);
   once = λ n. grind (arith, nat_tests, h.once n);
-  behind = λ n. grind (arith, nat_tests, h.behind n, h.fresh n);
-  fresh = λ n e. grind (arith, nat_tests, h.fresh n);
+  balanced = λ n. grind (arith, nat_tests, h.balanced n);
 }
 step Cancel call last given settled h = record {
   latest = λ n e. grind (arith, nat_tests);
   none_ahead = λ n l. omega (arith, h.none_ahead n l);
   once = λ n. omega (arith, h.once n);
-  behind = λ n. omega (arith, h.behind n);
-  fresh = λ n e. grind (arith, nat_tests);
+  balanced = λ n. omega (arith, h.balanced n);
 }
 
 always : (events : List Event) → HoldsOf (client_after events) (λ n. times_given n events) (λ n. times_settled n events)
@@ -59,8 +53,7 @@ always [] = record {
   latest = λ n e. grind (arith, nat_tests);
   none_ahead = λ n l. refl;
   once = λ n. omega arith;
-  behind = λ n. omega arith;
-  fresh = λ n e. grind (arith, nat_tests);
+  balanced = λ n. refl;
 }
 always (event ∷ past) =
     let c = client_after past in
@@ -69,5 +62,5 @@ always (event ∷ past) =
 pub given_once : (number : ℕ) (events : List Event) → times_given number events ≤ 1
 given_once number events = (always events).once number
 
-pub settled_where_given : (number : ℕ) (events : List Event) → times_settled number events ≤ times_given number events
-settled_where_given number events = (always events).behind number
+pub settled_once : SettlesOnce
+settled_once number events = (always events).balanced number

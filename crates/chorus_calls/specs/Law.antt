@@ -1,10 +1,10 @@
 -- What happens to a client, one event after another.
-use Rattle.std.specs.Prelude.{ℕ, ◌+◌, ◌==◌, Bool, ◌&&◌, true, false, List, [], ◌∷◌, Result, Ok, Err, if◌then◌else◌}
+use Rattle.std.specs.Prelude.{◌≡◌, ℕ, ◌+◌, ◌==◌, Bool, ◌&&◌, true, false, List, [], ◌∷◌, Result, Ok, Err, if◌then◌else◌}
 use Rattle.chorus_ui.specs.declared.ui.Ui.{Ui}
 use Rattle.chorus_calls.specs.declared.client.Outstanding.{Outstanding}
 use Rattle.chorus_calls.specs.declared.client.Settle.{Settle}
 use Rattle.chorus_calls.specs.declared.client.Settle.TheVariants.{Done, Late}
-use Rattle.chorus_calls.specs.Clients.{Calling, new_client, begun, after_begin, answer_to, after_settle, after_cancel}
+use Rattle.chorus_calls.specs.Clients.{Calling, new_client, begun, after_begin, is_outstanding, answer_to, after_settle, after_cancel}
 
 -- a call is begun, a reply to the call of a number comes, or the outstanding call is cancelled
 pub data Event : Type 0 where
@@ -38,18 +38,23 @@ abbrev pub is_done : Settle → Bool
 is_done Done = true
 is_done Late = false
 
--- the event is a reply that ends the call of this number
+-- the event ends the call of this number: a reply to it, or a cancel
 abbrev pub settles : ℕ → Event → Calling → Bool
 settles n (Begin port back body) c = false
 settles n (Reply number) c = (number == n) && is_done (answer_to c number)
-settles n Cancel c = false
+settles n Cancel c = is_outstanding n c
 
 -- how often the number was given
 abbrev pub times_given : ℕ → List Event → ℕ
 times_given n [] = 0
 times_given n (event ∷ past) = (if gives n event (client_after past) then 1 else 0) + times_given n past
 
--- how often it was settled
+-- how often it was settled, by a reply or a cancel
 abbrev pub times_settled : ℕ → List Event → ℕ
 times_settled n [] = 0
 times_settled n (event ∷ past) = (if settles n event (client_after past) then 1 else 0) + times_settled n past
+
+-- A number that was given was settled, or is the outstanding one: each once.
+abbrev pub SettlesOnce : Type 0
+SettlesOnce = (number : ℕ) (events : List Event) → times_given number events
+    ≡ times_settled number events + (if is_outstanding number (client_after events) then 1 else 0)

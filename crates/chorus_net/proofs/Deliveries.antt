@@ -101,10 +101,10 @@ module _ (s : SitesState) (a b i j : ℕ) (x : Seated) (p p' : Place) (h : IsSit
     still-boxes : boxes (set s.places i p') ≡ boxes s.places
     still-boxes = boxes-set-is s.places i p' ∙ ap (set (boxes s.places) i) (out ∙ none-without b p.out.lists none ∙ sym box) ∙ set-get_or (boxes s.places) i []
 
-    pub idle-net : net (record { layout = s.layout; places = set s.places i p'; callers = s.callers }) ≡ net s
+    pub idle-net : net (record { layout = s.layout; mark = s.mark; places = set s.places i p'; callers = s.callers }) ≡ net s
     idle-net = λ k. record { layout = s.layout; places = taken-places k; packets = waiting_in (still-boxes k); callers = s.callers }
 
-    pub idle-sites : IsSites (record { layout = s.layout; places = set s.places i p'; callers = s.callers })
+    pub idle-sites : IsSites (record { layout = s.layout; mark = s.mark; places = set s.places i p'; callers = s.callers })
     idle-sites = record {
       shape = h.shape;
       places = taken-are;
@@ -183,7 +183,7 @@ module _ (s : SitesState) (a b i j : ℕ) (x : Seated) (p p' : Place) (h : IsSit
       stays-layout : (work k (begun_by (state r) x k)).place.layout ≡ r.layout
       stays-layout = (work-stays k (begun_by (state r) x k)).layout
 
-      pub worked-net : net (record { layout = s.layout; places = set (set s.places i p') j q; callers = set s.callers 0 y }) ≡ happened (Deliver 0 a b) (net s)
+      pub worked-net : net (record { layout = s.layout; mark = s.mark; places = set (set s.places i p') j q; callers = set s.callers 0 y }) ≡ happened (Deliver 0 a b) (net s)
       worked-net =
           let t = work k (begun_by (state r) x k) in
           let one : with_place (work k (begun_by (state r) x k)).place (map state s.places) ≡ map state (set (set s.places i p') j q) =
@@ -192,12 +192,12 @@ module _ (s : SitesState) (a b i j : ℕ) (x : Seated) (p p' : Place) (h : IsSit
           let two : put_all (work k (begun_by (state r) x k)).puts (rest_on a b (waiting_in (boxes s.places))) ≡ waiting_in (boxes (set (set s.places i p') j q)) =
           ap (put_all (work k (begun_by (state r) x k)).puts) taken-packets
           ∙ turned-packets s.layout (set s.places i p') j r q t x y taken-are lt1 rt puts e stays stays-layout in
-          let same : net (record { layout = s.layout; places = set (set s.places i p') j q; callers = set s.callers 0 y })
+          let same : net (record { layout = s.layout; mark = s.mark; places = set (set s.places i p') j q; callers = set s.callers 0 y })
           ≡ ended 0 (work k (begun_by (state r) x k)) (record (net s) { packets = rest_on a b (waiting_in (boxes s.places)) }) =
           (λ n. record { layout = s.layout; places = sym one n; packets = sym two n; callers = set s.callers 0 (e.caller_is n) }) in
           same ∙ sym event-is
 
-      pub worked-sites : IsSites (record { layout = s.layout; places = set (set s.places i p') j q; callers = set s.callers 0 y })
+      pub worked-sites : IsSites (record { layout = s.layout; mark = s.mark; places = set (set s.places i p') j q; callers = set s.callers 0 y })
       worked-sites = record {
         shape = h.shape;
         places = turned-are s.layout (set s.places i p') j r q (work k (begun_by (state r) x k)) x y taken-are lt1 rt puts e stays stays-layout;
@@ -253,13 +253,13 @@ module _ (s : SitesState) (a b i j : ℕ) (x : Seated) (p p' : Place) (h : IsSit
       callers-are : set s.callers 0 y ≡ s.callers
       callers-are = ap (set s.callers 0) (same ∙ here) ∙ set-get_or s.callers 0 x
 
-      pub restored-net : net (record { layout = s.layout; places = set (set (set s.places i p') j q) i r2; callers = set s.callers 0 y }) ≡ net s
+      pub restored-net : net (record { layout = s.layout; mark = s.mark; places = set (set (set s.places i p') j q) i r2; callers = set s.callers 0 y }) ≡ net s
       restored-net = λ n. record { layout = s.layout; places = states-are n; packets = waiting_in (boxes-are n); callers = callers-are n }
 
       state-is : state r2 ≡ state p
       state-is = st2 ∙ ap state p2-is ∙ st
 
-      pub restored-sites : IsSites (record { layout = s.layout; places = set (set (set s.places i p') j q) i r2; callers = set s.callers 0 y })
+      pub restored-sites : IsSites (record { layout = s.layout; mark = s.mark; places = set (set (set s.places i p') j q) i r2; callers = set s.callers 0 y })
       restored-sites = record {
         shape = h.shape;
         places = are-set s.layout 1 i (set (set s.places i p') j q) r2 (stayed-are s.layout (set s.places i p') j r q taken-are lt1 rt stays) record {

@@ -148,16 +148,16 @@ module _ (s : SitesState) (k i : ℕ) (c : Command) (x : Seated) (p : Place) (h 
     stays-layout : (act c (begun (state p) x)).place.layout ≡ p.layout
     stays-layout = (act-stays c (begun (state p) x)).layout
 
-    pub acted-net : net (record { layout = s.layout; places = set s.places i q; callers = set s.callers k y }) ≡ happened (Act k c) (net s)
+    pub acted-net : net (record { layout = s.layout; mark = s.mark; places = set s.places i q; callers = set s.callers k y }) ≡ happened (Act k c) (net s)
     acted-net =
         let t = act c (begun (state p) x) in
         let a = turned-places s.layout s.places i p q t x y h.places lt at puts e stays stays-layout in
         let b = turned-packets s.layout s.places i p q t x y h.places lt at puts e stays stays-layout in
-        let same : net (record { layout = s.layout; places = set s.places i q; callers = set s.callers k y }) ≡ ended k (act c (begun (state p) x)) (net s) =
+        let same : net (record { layout = s.layout; mark = s.mark; places = set s.places i q; callers = set s.callers k y }) ≡ ended k (act c (begun (state p) x)) (net s) =
         (λ j. record { layout = s.layout; places = sym a j; packets = sym b j; callers = set s.callers k (e.caller_is j) }) in
         same ∙ sym event-is
 
-    pub acted-sites : IsSites (record { layout = s.layout; places = set s.places i q; callers = set s.callers k y })
+    pub acted-sites : IsSites (record { layout = s.layout; mark = s.mark; places = set s.places i q; callers = set s.callers k y })
     acted-sites = record {
       shape = h.shape;
       places = turned-are s.layout s.places i p q (act c (begun (state p) x)) x y h.places lt at puts e stays stays-layout;
@@ -198,13 +198,13 @@ module _ (l : Layout) (ps : List Place) (i : ℕ) (p q : Place) (are : ArePlaces
       }
 
 module _ (s : SitesState) (i : ℕ) (p q : Place) (h : IsSites s) (lt : i < length s.places) (at : p ≡ get_or s.places i p) (stays : Stays p q) where
-  pub kept-net : net (record { layout = s.layout; places = set s.places i q; callers = s.callers }) ≡ net s
+  pub kept-net : net (record { layout = s.layout; mark = s.mark; places = set s.places i q; callers = s.callers }) ≡ net s
   kept-net =
       let a = stayed-places s.layout s.places i p q h.places lt at stays in
       let b = stayed-boxes s.layout s.places i p q h.places lt at stays in
       λ j. record { layout = s.layout; places = a j; packets = waiting_in (b j); callers = s.callers }
 
-  pub kept-sites : IsSites (record { layout = s.layout; places = set s.places i q; callers = s.callers })
+  pub kept-sites : IsSites (record { layout = s.layout; mark = s.mark; places = set s.places i q; callers = s.callers })
   kept-sites = record {
     shape = h.shape;
     places = stayed-are s.layout s.places i p q h.places lt at stays;
@@ -219,13 +219,13 @@ module _ (s : SitesState) (k i : ℕ) (x y : Seated) (p q : Place) (h : IsSites 
   callers-are : set s.callers k y ≡ s.callers
   callers-are = ap (set s.callers k) (same ∙ here) ∙ set-get_or s.callers k x
 
-  pub refused-net : net (record { layout = s.layout; places = set s.places i q; callers = set s.callers k y }) ≡ net s
+  pub refused-net : net (record { layout = s.layout; mark = s.mark; places = set s.places i q; callers = set s.callers k y }) ≡ net s
   refused-net =
       let a = stayed-places s.layout s.places i p q h.places lt at stays in
       let b = stayed-boxes s.layout s.places i p q h.places lt at stays in
       λ j. record { layout = s.layout; places = a j; packets = waiting_in (b j); callers = callers-are j }
 
-  pub refused-sites : IsSites (record { layout = s.layout; places = set s.places i q; callers = set s.callers k y })
+  pub refused-sites : IsSites (record { layout = s.layout; mark = s.mark; places = set s.places i q; callers = set s.callers k y })
   refused-sites = record {
     shape = h.shape;
     places = stayed-are s.layout s.places i p q h.places lt at stays;

@@ -12,7 +12,7 @@ use Rattle.law_network.specs.Left.{placed_at}
 use Rattle.law_network.specs.Network.{NetState}
 use Rattle.chorus_place.specs.Calls.{Place, state}
 use Rattle.chorus_net.specs.declared.closed.Closed.{Closed}
-use Rattle.chorus_net.specs.Closing.{closed_journals, flat, journals_in, packets_of, ports_of, HasPartsOf, IsOfSites, IsWith}
+use Rattle.chorus_net.specs.Closing.{closed_journals, flat, journals_in, packets_of, ports_of, HasPartsOf, HasMark, IsWith}
 use Rattle.chorus_net.specs.Sites.{SitesState, ArePlaces, IsPlaceOf, IsSites}
 use Rattle.chorus_net.specs.Starting.{HasStarted, HaveStarted, IsUntouched}
 use Rattle.chorus_net.proofs.Parts.{one-more}
@@ -62,16 +62,16 @@ all-restarted l k (suc i) (p ∷ ps) h e = (h.0, all-restarted l (k + 1) i ps h.
 
 -- One place after the other: the first ones, so many, have started again, and what was left of them is taken.
 
-pub record AreTaken (l : Layout) (i : ℕ) (all ps : List Place) (closed : Closed) : Type 0 where
+pub record AreTaken (l : Layout) (mark i : ℕ) (all ps : List Place) (closed : Closed) : Type 0 where
   pub restarted : AreRestarted l 1 i ps
   pub journals : closed_journals closed ++ journals_in (drop i ps) ≡ journals_in all
   pub rest : closed.rest.items ++ packets_of (drop i ps) ≡ packets_of all
   pub ports : closed.ports.items ++ ports_of (drop i ps) ≡ ports_of all
-  pub origin : IsOfSites closed
+  pub origin : HasMark mark closed
 
-pub none-taken : (l : Layout) (ps : List Place) (closed : Closed) → ArePlaces l 1 ps → All IsUntouched (map state ps) → closed_journals closed ≡ []
-    → closed.rest.items ≡ [] → closed.ports.items ≡ [] → IsOfSites closed → AreTaken l 0 ps ps closed
-none-taken l ps closed h u j r q o = record {
+pub none-taken : (l : Layout) (mark : ℕ) (ps : List Place) (closed : Closed) → ArePlaces l 1 ps → All IsUntouched (map state ps) → closed_journals closed ≡ []
+    → closed.rest.items ≡ [] → closed.ports.items ≡ [] → HasMark mark closed → AreTaken l mark 0 ps ps closed
+none-taken l mark ps closed h u j r q o = record {
   restarted = none-restarted l 1 ps h u;
   journals = ap (λ js. js ++ journals_in ps) j;
   rest = ap (λ xs. xs ++ packets_of ps) r;
@@ -90,9 +90,9 @@ old-at l k zero (r ∷ ps) p h e lt = (let n : k ≡ k + 0 = omega arith in subs
 old-at l k (suc i) (r ∷ ps) p h e lt =
     (let n : (k + 1) + i ≡ k + suc i = omega arith in subst (λ j. IsOld l j p) n (old-at l (k + 1) i ps p h.1 e (omega (arith, lt))))
 
-pub one-taken : (l : Layout) (i : ℕ) (all ps : List Place) (p q : Place) (old new : Closed) → AreTaken l i all ps old → p ≡ get_or ps i p → i < length ps
-    → IsWith p old new → HasStarted l (1 + i) q → AreTaken l (suc i) all (set ps i q) new
-one-taken l i all ps p q old new h e lt w s =
+pub one-taken : (l : Layout) (mark i : ℕ) (all ps : List Place) (p q : Place) (old new : Closed) → AreTaken l mark i all ps old → p ≡ get_or ps i p → i < length ps
+    → IsWith p old new → HasStarted l (1 + i) q → AreTaken l mark (suc i) all (set ps i q) new
+one-taken l mark i all ps p q old new h e lt w s =
     let d = drop-at i ps p q e lt in
     let rest = drop (suc i) (set ps i q) in
     record {
@@ -112,8 +112,8 @@ drop-all [] (suc i) e = refl
 drop-all (p ∷ ps) zero e = absurd (omega (arith, e))
 drop-all (p ∷ ps) (suc i) e = drop-all ps i (omega (arith, e))
 
-pub all-taken : (l : Layout) (i : ℕ) (all ps : List Place) (closed : Closed) → AreTaken l i all ps closed → length ps ≡ i → HasPartsOf all closed
-all-taken l i all ps closed h e =
+pub all-taken : (l : Layout) (mark i : ℕ) (all ps : List Place) (closed : Closed) → AreTaken l mark i all ps closed → length ps ≡ i → HasPartsOf mark all closed
+all-taken l mark i all ps closed h e =
     let d = sym (drop-all ps i e) in
     record {
       journals = sym (append-nil (closed_journals closed)) ∙ ap (λ ds. closed_journals closed ++ journals_in ds) d ∙ h.journals;

@@ -33,9 +33,12 @@ past_of closed = reverse (merge_of closed)
 abbrev pub holdings_of : Layout → Closed → List Holding
 holdings_of l closed = holdings_left l closed.ports.items closed.rest.items
 
--- it was made by closing sites
+-- it was made by closing the sites with this mark, and by closing some sites
+abbrev pub HasMark : ℕ → Closed → Type 0
+HasMark mark closed = closed.origin ≡ Origin.Sites mark
+
 abbrev pub IsOfSites : Closed → Type 0
-IsOfSites closed = closed.origin ≡ Origin.Sites
+IsOfSites closed = (mark : ℕ) × HasMark mark closed
 
 -- it was made of places that a pass closed, of which this is left, with this clock, which the caller gave as worn
 abbrev pub IsOfTurns : Spent PlaceNote → Option ℕ → Closed → Type 0
@@ -47,7 +50,7 @@ HasParts journals rest ports closed = (closed.journals ≡ journals) × (closed.
 
 -- the clock that the caller gave as worn; none for sites
 abbrev pub worn_in : Origin → Option ℕ
-worn_in Origin.Sites = None
+worn_in (Origin.Sites mark) = None
 worn_in (Origin.Turns spent worn) = worn
 
 abbrev pub worn_of : Closed → Option ℕ
@@ -98,9 +101,9 @@ pub record IsWith (p : Place) (old new : Closed) : Type 0 where
   pub ports : new.ports.items ≡ old.ports.items ++ placed_at p.number p.ports
   pub origin : new.origin ≡ old.origin
 
--- what is left of these places, made by closing sites
-pub record HasPartsOf (ps : List Place) (closed : Closed) : Type 0 where
+-- what is left of these places, made by closing the sites with this mark
+pub record HasPartsOf (mark : ℕ) (ps : List Place) (closed : Closed) : Type 0 where
   pub journals : closed_journals closed ≡ journals_in ps
   pub rest : closed.rest.items ≡ packets_of ps
   pub ports : closed.ports.items ≡ ports_of ps
-  pub origin : IsOfSites closed
+  pub origin : HasMark mark closed

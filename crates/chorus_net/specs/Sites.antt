@@ -13,9 +13,11 @@ use Rattle.law_network.specs.Network.{NetState, Event, schedule}
 use Rattle.law_network.specs.Schedules.{may_be}
 use Rattle.chorus_place.specs.Calls.{Place, state}
 
--- the places by their numbers, and the caller of each seat, from seat 0 on
+-- the mark says which sites they are, by a number of which no call says more; the places by their numbers, and the
+-- caller of each seat, from seat 0 on
 pub record SitesState : Type 0 where
   pub layout : Layout
+  pub mark : ℕ
   pub places : List Place
   pub callers : List Seated
 

@@ -3,6 +3,7 @@
 ghost use Rattle.std.specs.Prelude.{◌≡◌};
 ghost use Rattle.chorus_net.specs.Closing.{worn_of, HasParts, IsOfTurns};
 
+use crate::mark::Mark;
 use chorus_calls::Caller;
 use chorus_entry::{Command, Entry, Packet};
 use chorus_turn::Spent;
@@ -11,8 +12,9 @@ use law_network::Placed;
 
 /// What is left when the sites, or the places at which threads took turns, are closed.
 ///
-/// Its origin is private: [`Sites::close`](crate::Sites::close) and [`Sites::restart`](crate::Sites::restart) alone make one of sites,
-/// and [`Closed::of`] one of places at which passes took turns, which needs what is left of the pass that closed them.
+/// Its origin is private, and tells contracts which sites it is of, or which pass closed the places.
+/// [`Sites::close`](crate::Sites::close) and [`Sites::restart`](crate::Sites::restart) alone make one of sites, and [`Closed::of`] one of
+/// places at which passes took turns, which needs what is left of the pass that closed them.
 #[derive(Drop)]
 pub struct Closed {
     /// The journal of each place, by place, in order.
@@ -28,8 +30,8 @@ pub struct Closed {
 /// What a `Closed` was made by.
 #[derive(Drop)]
 pub(crate) enum Origin {
-    /// `Sites::close` or `Sites::restart`.
-    Sites,
+    /// `Sites::close` or `Sites::restart`, of the sites with this mark.
+    Sites(Mark),
     /// `Closed::of`, of the pass that closed the places, and the clock that the caller gave as worn.
     Turns {
         spent: Spent<Noted<Caller, Command, Packet>>,
@@ -64,7 +66,7 @@ impl Closed {
         ensures { result ≡ worn_of self.now }
     {
         match &self.origin {
-            Origin::Sites => None,
+            Origin::Sites(_) => None,
             Origin::Turns { worn, .. } => *worn,
         }
     }

@@ -6,6 +6,7 @@ ghost use Rattle.law_network.specs.Left.{placed_at};
 ghost use Rattle.chorus_net.specs.Closing.{flat, total_waiting, total_held, HasPartsOf};
 
 use crate::closed::{Closed, Origin};
+use crate::mark::Mark;
 use chorus_entry::{Entry, Packet};
 use chorus_place::Place;
 use chorus_ports::Ports;
@@ -58,8 +59,9 @@ pub(crate) fn take_ports(placed: &mut Vec<Placed>, place: u16, ports: Ports)
     }
 }
 
-/// What is left of the places of sites that are closed, by place, in the room that is there.
+/// What is left of the places of sites with this mark that are closed, by place, in the room that is there.
 pub(crate) fn take_apart(
+    mark: Mark,
     places: Vec<Place>,
     journals: Vec<Vec<Entry>>,
     rest: Vec<Packet>,
@@ -71,7 +73,7 @@ pub(crate) fn take_apart(
     requires room_for_journals { length places.items ≤ vec_capacity journals }
     requires room_for_packets { total_waiting places.items ≤ vec_capacity rest }
     requires room_for_ports { total_held places.items ≤ vec_capacity ports }
-    ensures { HasPartsOf places.items result }
+    ensures { HasPartsOf mark places.items result }
 {
     let mut places = places;
     let mut journals = journals;
@@ -89,6 +91,6 @@ pub(crate) fn take_apart(
         journals,
         rest,
         ports,
-        origin: Origin::Sites,
+        origin: Origin::Sites(mark),
     }
 }

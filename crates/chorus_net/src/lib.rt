@@ -10,6 +10,7 @@ mod closed;
 mod closing;
 mod fault;
 mod giving;
+mod mark;
 mod restarting;
 mod sites;
 mod starting;

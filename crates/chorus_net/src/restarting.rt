@@ -11,22 +11,24 @@ ghost use Rattle.chorus_net.specs.Starting.{HasStarted, HaveStarted, IsUntouched
 
 use crate::closed::{Closed, Origin};
 use crate::closing::{take_packets, take_ports};
+use crate::mark::Mark;
 use chorus_place::Place;
 use chorus_ui::Layout;
 use std::alloc::{AllocError, Global};
 use std::mem;
 
-/// Takes what is left of the places, and starts those again on which something happened; the others, which have no entry, stay as
+/// Takes what is left of the places of sites with this mark, and starts those again on which something happened; the others, which have no entry, stay as
 /// they are.
 pub(crate) fn restart_places(
     alloc: Global,
     layout: Layout,
+    mark: Mark,
     used: Vec<Place>,
 ) -> Result<(Closed, Vec<Place>), AllocError>
     requires are { ArePlaces layout 1 used.items }
     requires all { length used.items ≡ places layout }
     requires untouched { All IsUntouched (map state used.items) }
-    ensures closed { IfOk result (λ r. HasPartsOf used.items r.0) }
+    ensures closed { IfOk result (λ r. HasPartsOf mark used.items r.0) }
     ensures started { IfOk result (λ r. HaveStarted layout 1 r.1.items) }
     ensures all { IfOk result (λ r. length r.1.items ≡ places layout) }
 {
@@ -35,7 +37,7 @@ pub(crate) fn restart_places(
         journals: Vec::new(alloc),
         rest: Vec::new(alloc),
         ports: Vec::new(alloc),
-        origin: Origin::Sites,
+        origin: Origin::Sites(mark),
     };
     let count = layout.places();
     let mut number = 1;

@@ -10,7 +10,7 @@ ghost use Rattle.law_network.specs.Network.{Act, happened, replied, delivery, pl
 ghost use Rattle.law_network.specs.Network.{place as place_of};
 ghost use Rattle.law_network.specs.Schedules.{may_happen};
 ghost use Rattle.law_network.specs.Calls.{just_started, entering, delivering, posts_of, compared, compared_at};
-ghost use Rattle.chorus_net.specs.Closing.{IsClosed};
+ghost use Rattle.chorus_net.specs.Closing.{IsClosed, HasMark};
 ghost use Rattle.chorus_net.specs.Drains.{Ticks, Goes, GoesRound, Drains, Stops, StopsAmong, AnyCause, ComparesWorn, row_from, puts_forward};
 ghost use Rattle.chorus_net.specs.Room.{HaveRoom, HasRoomAt, KeepRoom, HasReserved, StayAsTheyWere, UsesRoom, UsesRoomInRounds, TakesNoneAt, puts_in, puts_of};
 ghost use Rattle.chorus_net.specs.Sites.{net, AreTwoPlaces, IsScheduled, IsSending, IsSites};
@@ -21,6 +21,7 @@ use crate::closed::Closed;
 use crate::closing::{count_packets, count_ports, take_apart};
 use crate::fault::EnterFault;
 use crate::giving::may_give;
+use crate::mark::Mark;
 use crate::restarting::restart_places;
 use crate::starting::start_places;
 use chorus_calls::Caller;
@@ -32,9 +33,13 @@ use std::alloc::{AllocError, Global};
 use std::marker::Model;
 
 /// The sites of a layout on one thread: their places, and their callers.
+///
+/// Which sites they are is their mark, which contracts alone see: they get one at their start, no call changes it, and what is left
+/// when they are closed has it.
 #[derive(Drop)]
 pub struct Sites {
     layout: Layout,
+    mark: Mark,
     places: Vec<Place>,
     callers: Vec<Caller>,
 }
@@ -45,10 +50,20 @@ impl Model for Sites {
     ghost Value = { SitesState };
 
     ghost view = { λ s.
-        record { layout = s.layout; places = s.places.items; callers = s.callers.items } };
+        record {
+          layout = s.layout;
+          mark = s.mark;
+          places = s.places.items;
+          callers = s.callers.items;
+        } };
 
     ghost invariant = { λ s. IsSites
-        (record { layout = s.layout; places = s.places.items; callers = s.callers.items }) };
+        (record {
+          layout = s.layout;
+          mark = s.mark;
+          places = s.places.items;
+          callers = s.callers.items;
+        }) };
 }
 
 impl Sites {
@@ -61,15 +76,17 @@ impl Sites {
         Sites::of(layout, places, Vec::new(alloc))
     }
 
-    /// Takes the sites apart and starts them again: what is left of them, and sites of the same layout on which nothing happened yet.
+    /// Takes the sites apart and starts them again: what is left of them, and other sites of the same layout on which nothing happened
+    /// yet.
     /// Of the places only those on which something happened take memory. The only error is want of memory: then the sites are gone, with
     /// all that is left of them.
     pub fn restart(self, alloc: Global) -> Result<(Closed, Sites), AllocError>
         ensures closed { IfOk result (λ r. IsClosed (net self) r.0) }
+        ensures mark { IfOk result (λ r. HasMark self.mark r.0) }
         ensures started { IfOk result (λ r. net r.1 ≡ just_started self.layout) }
     {
         let layout = self.layout;
-        let (closed, places) = restart_places(alloc, layout, self.places)?;
+        let (closed, places) = restart_places(alloc, layout, self.mark, self.places)?;
         let mut callers = self.callers;
         callers.clear();
         let sites = Sites::of(layout, places, callers)?;
@@ -89,6 +106,7 @@ impl Sites {
         callers.push(Caller::new(0, actor, 0))?;
         Ok(Sites {
             layout,
+            mark: Mark::for_start(),
             places,
             callers,
         })
@@ -135,6 +153,7 @@ impl Sites {
             × (length self.old.callers ≡ SEATS_LIMIT) × (made ≡ SEATS_LIMIT)) }
         ensures refused { OnErr result (self.new ≡ self.old) }
         ensures places { (self.new.layout ≡ self.old.layout) × (self.new.places ≡ self.old.places) }
+        ensures mark { self.new.mark ≡ self.old.mark }
     {
         if self.layout.home(actor).is_none() {
             return Err(EnterFault::NoActor);
@@ -177,6 +196,7 @@ impl Sites {
         ensures takes_no_memory { TakesNoneAt command (slice_get self.old.callers seat) self.old →
             compared seat command (net self.old) < CLOCK_LIMIT → IsOk result }
         ensures layout { self.new.layout ≡ self.old.layout }
+        ensures mark { self.new.mark ≡ self.old.mark }
     {
         let caller = &mut self.callers[seat as usize];
         let number = command.place_for(self.layout, caller.actor());
@@ -198,6 +218,7 @@ impl Sites {
         // Where a packet was worked off, seat 0's last clock was below 2^62, and has risen.
         ensures ticks { result ≡ Ok Delivered.Served → Ticks (net self.old) (net self.new) }
         ensures layout { self.new.layout ≡ self.old.layout }
+        ensures mark { self.new.mark ≡ self.old.mark }
         ensures refused { OnErr result (StayAsTheyWere self.old self.new) }
         ensures room { OnOk result (UsesRoom
             (puts_in (delivering from to) (net self.old)) self.old.places self.new.places) }
@@ -233,6 +254,7 @@ impl Sites {
         ensures same { net self.new ≡ net self.old }
         ensures kept { KeepRoom self.old.places self.new.places }
         ensures layout { self.new.layout ≡ self.old.layout }
+        ensures mark { self.new.mark ≡ self.old.mark }
     {
         let place = &mut self.places[usize::from(from) - 1];
         let Some(packet) = place.out(to) else {
@@ -278,6 +300,7 @@ impl Sites {
             IsWornIn clock (net self.old) (net self.new) }
         ensures room { UsesRoomInRounds self.old self.new }
         ensures layout { self.new.layout ≡ self.old.layout }
+        ensures mark { self.new.mark ≡ self.old.mark }
     {
         let mut served = 0;
         loop {
@@ -295,6 +318,7 @@ impl Sites {
         ensures room { OnOk result (HaveRoom more self.new.places) }
         ensures kept { KeepRoom self.old.places self.new.places }
         ensures layout { self.new.layout ≡ self.old.layout }
+        ensures mark { self.new.mark ≡ self.old.mark }
     {
         let count = self.places.len();
         let mut index = 0;
@@ -311,6 +335,7 @@ impl Sites {
         ensures same { net self.new ≡ net self.old }
         ensures reserved { HasReserved index self.old.places self.new.places }
         ensures layout { self.new.layout ≡ self.old.layout }
+        ensures mark { self.new.mark ≡ self.old.mark }
         ensures room { OnOk result (HasRoomAt more index self.new.places) }
     {
         self.places[index].reserve(more)
@@ -319,6 +344,7 @@ impl Sites {
     /// Takes the sites apart. Want of memory hands them back as they were.
     pub fn close(self, alloc: Global) -> Result<Closed, (Sites, AllocError)>
         ensures ok { IfOk result (λ closed. IsClosed (net self) closed) }
+        ensures mark { IfOk result (λ closed. HasMark self.mark closed) }
         ensures scheduled { OnOk result (IsScheduled self.layout (net self)) }
         ensures err { IfErr result (λ back. back.0 ≡ self) }
     {
@@ -340,7 +366,7 @@ impl Sites {
         if let Err(error) = ports.reserve(held) {
             return Err((self, error));
         }
-        Ok(take_apart(self.places, journals, rest, ports))
+        Ok(take_apart(self.mark, self.places, journals, rest, ports))
     }
 
     /// One round of a drain. Gives the number of packets that it worked off.
@@ -356,6 +382,7 @@ impl Sites {
             (from_each 0 (place_numbers self.old.layout) (place_numbers self.old.layout))
             (ComparesWorn clock) self.old self.new }
         ensures layout { self.new.layout ≡ self.old.layout }
+        ensures mark { self.new.mark ≡ self.old.mark }
         ensures dry { result ≡ Ok 0 → (net self.new).packets ≡ [] }
     {
         let count = self.layout.places();
@@ -382,6 +409,7 @@ impl Sites {
         ensures worn { (clock : ℕ) → IsErrOf result (PlaceFault.Worn clock) → StopsAmong
             (row_from self.old.layout from) (ComparesWorn clock) self.old self.new }
         ensures layout { self.new.layout ≡ self.old.layout }
+        ensures mark { self.new.mark ≡ self.old.mark }
     {
         if self.is_idle(from) {
             return Ok(0);
@@ -410,6 +438,7 @@ impl Sites {
         ensures worn { (clock : ℕ) → IsErrOf result (PlaceFault.Worn clock) → StopsAmong
             (from_one 0 from (to ∷ [])) (ComparesWorn clock) self.old self.new }
         ensures layout { self.new.layout ≡ self.old.layout }
+        ensures mark { self.new.mark ≡ self.old.mark }
     {
         if from == to {
             return Ok(0);

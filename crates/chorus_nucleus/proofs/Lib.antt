@@ -16,6 +16,8 @@ pub mod Left
 pub mod Ended
 pub mod Following
 pub mod Running
+pub mod Posted
+pub mod Idling
 pub mod TakeTurns
 pub mod Trying
 pub mod Pairs

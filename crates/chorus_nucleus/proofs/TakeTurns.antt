@@ -44,7 +44,10 @@ use Rattle.chorus_nucleus.proofs.Behind.{more-up}
 use Rattle.chorus_nucleus.specs.Passes.{layout_of, known, caller_of, worn_by}
 use Rattle.chorus_nucleus.specs.Calls.{Because, Performs, IsCall, place_of, worn_after}
 use Rattle.chorus_nucleus.specs.declared.taken_message.TakenMessage.{TakenMessage}
-use Rattle.chorus_nucleus.specs.Taking.{acts_made, Appends, HasOrigin, SeesMore, KeepsPass, IsByTakes, TakesOn, IsTake}
+use Rattle.chorus_nucleus.specs.declared.taken_message.TakeAnswer.{TakeAnswer}
+use Rattle.chorus_nucleus.specs.declared.taken_message.TakeAnswer.TheVariants as answers
+use Rattle.chorus_nucleus.specs.Taking.{acts_made, Appends, Gives, HasOrigin, SeesMore, KeepsPass, IsByTakes, TakesOn, IsTake}
+use Rattle.chorus_nucleus.specs.Answers.{reply_of}
 
 made-acts : (p k : ℕ) (seen : List (List (Remarked PlaceNote))) (r : PlaceNote) (es : List Entry) → acts_made (with_place p seen (numbered k r es)) ≡ acts_of es
 made-acts p k seen r [] = refl
@@ -67,7 +70,7 @@ sees-turn p found news v u knows starts k = sees-put p (found ++ news) v u.seen 
 pub sees-same : (v u : Knowledge PlaceNote) → u.seen ≡ v.seen → SeesMore v u
 sees-same v u same k = starts_same (seen_at k v) (seen_at k u) (seen_at k v) (ap (λ row. list_at k row) same) (starts_itself (seen_at k v))
 
-sees-fault : (l : Layout) (p : ℕ) (f : CallFault) (v : Knowledge PlaceNote) (w : Seated) (u : Knowledge PlaceNote) (x : Seated) → Because f l p v w u x → SeesMore v u
+pub sees-fault : (l : Layout) (p : ℕ) (f : CallFault) (v : Knowledge PlaceNote) (w : Seated) (u : Knowledge PlaceNote) (x : Seated) → Because f l p v w u x → SeesMore v u
 sees-fault l p (faults.Busy by) v w u x b = sees-same v u (ap (λ (z : Knowledge PlaceNote). z.seen) b.0.knows)
 sees-fault l p (faults.Memory none) v w u x b = sees-turn p b.1.found [] v u b.1.knows b.1.shows.begins
 sees-fault l p (faults.Worn clock) v w u x b = sees-turn p b.looks.found [] v u b.looks.knows b.looks.shows.begins
@@ -203,43 +206,34 @@ module _ (n : Nucleus) (q : Ui) (old new : Pass) where
     takes = λ clock le i. by-takes (layout_of n) (place_of n (Command.Take q) old) q r (known old) (known new) (caller_of old) (caller_of new) h.turn clock le refl i;
   }
 
-  worn-as : (r : Reply) (a : Option TakenMessage) → IsCall n (Command.Take q) old new (Ok r) → worn_by new ≡ worn_after {T = Option TakenMessage} (worn_by old) (Ok a)
-  worn-as r a h = h.worn ∙ worn-ok (worn_by old) r ∙ sym (worn-ok (worn_by old) a)
-
   pub answered : (r : Reply) → IsCall n (Command.Take q) old new (Ok r) → answers_take r ≡ true
   answered r h = is-answer (layout_of n) (place_of n (Command.Take q) old) q r (known old) (known new) (caller_of old) (caller_of new) h.turn
 
-  pub taken : (pos : ℕ) (m : Message) (settled : Option Settle) → IsCall n (Command.Take q) old new (Ok (Reply.Taken pos m settled))
-      → IsTake n q (Ok (Some record { position = pos; message = m; settled = settled })) old new
-  taken pos m settled h = let r = Reply.Taken pos m settled in
+  pub gives : (r : Reply) → IsCall n (Command.Take q) old new (Ok r) → Gives (layout_of n) q r (known old) (known new)
+  gives r h = record {
+    appends = made r h;
+    origin = origin (layout_of n) (place_of n (Command.Take q) old) q r (known old) (known new) (caller_of old) (caller_of new) h.turn;
+  }
+
+  answers-with : (a : TakeAnswer) → IsCall n (Command.Take q) old new (Ok (reply_of a)) → IsTake n q (Ok a) old new
+  answers-with a h = let r = reply_of a in
       record {
         keeps = kept (Ok r) h (sees-ok r h);
         goes = goes r h;
-        answer = record {
-          appends = made r h;
-          origin = origin (layout_of n) (place_of n (Command.Take q) old) q r (known old) (known new) (caller_of old) (caller_of new) h.turn;
-        };
+        answer = gives r h;
         fault = tt;
-        worn = worn-as r (Some record { position = pos; message = m; settled = settled }) h;
+        worn = h.worn ∙ worn-ok (worn_by old) r ∙ sym (worn-ok (worn_by old) a);
       }
 
-  pub empty : IsCall n (Command.Take q) old new (Ok Reply.Empty) → IsTake n q (Ok None) old new
-  empty h = record {
-    keeps = kept (Ok Reply.Empty) h (sees-ok Reply.Empty h);
-    goes = goes Reply.Empty h;
-    answer = record { act = Act.Empty q; miss = inl refl; appends = made Reply.Empty h };
-    fault = tt;
-    worn = worn-as Reply.Empty None h;
-  }
+  pub taken : (pos : ℕ) (m : Message) (settled : Option Settle) → IsCall n (Command.Take q) old new (Ok (Reply.Taken pos m settled))
+      → IsTake n q (Ok (answers.Took record { position = pos; message = m; settled = settled; by_take = record {} })) old new
+  taken pos m settled h = answers-with (answers.Took record { position = pos; message = m; settled = settled; by_take = record {} }) h
 
-  pub not-here : IsCall n (Command.Take q) old new (Ok Reply.NotHere) → IsTake n q (Ok None) old new
-  not-here h = record {
-    keeps = kept (Ok Reply.NotHere) h (sees-ok Reply.NotHere h);
-    goes = goes Reply.NotHere h;
-    answer = record { act = Act.NotHere q; miss = inr refl; appends = made Reply.NotHere h };
-    fault = tt;
-    worn = worn-as Reply.NotHere None h;
-  }
+  pub empty : IsCall n (Command.Take q) old new (Ok Reply.Empty) → IsTake n q (Ok answers.Empty) old new
+  empty h = answers-with answers.Empty h
+
+  pub not-here : IsCall n (Command.Take q) old new (Ok Reply.NotHere) → IsTake n q (Ok answers.NotHere) old new
+  not-here h = answers-with answers.NotHere h
 
   pub refused : (f : CallFault) → IsCall n (Command.Take q) old new (Err f) → IsTake n q (Err f) old new
   refused f h = record {
@@ -247,7 +241,7 @@ module _ (n : Nucleus) (q : Ui) (old new : Pass) where
     goes = takes-nothing n q old new h.refused.mine h.refused.caller;
     answer = tt;
     fault = record { tried = known old; before = refl; because = h.fault; mine = h.refused.mine; caller = h.refused.caller };
-    worn = h.worn ∙ worn-err Reply (Option TakenMessage) (worn_by old) f;
+    worn = h.worn ∙ worn-err Reply TakeAnswer (worn_by old) f;
   }
 
 pub ruleset calls = (answered, taken, empty, not-here, refused)

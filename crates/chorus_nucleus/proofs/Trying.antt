@@ -7,6 +7,7 @@ use Rattle.chorus_entry.specs.declared.act.Act.{Act}
 use Rattle.chorus_entry.specs.declared.command.Command.{Command}
 use Rattle.chorus_entry.specs.Places.{place_for}
 use Rattle.law_machine.specs.declared.reply.Reply.{Reply}
+use Rattle.law_replies.specs.Taking.{taken_acts}
 use Rattle.chorus_turn.specs.declared.knowledge.Placed.{Placed}
 use Rattle.chorus_turn.specs.declared.knowledge.Knowledge.{Knowledge}
 use Rattle.chorus_turn.specs.Lists.{StartsWith}
@@ -18,8 +19,9 @@ use Rattle.chorus_nucleus.specs.declared.pass.Pass.{Pass}
 use Rattle.chorus_nucleus.specs.SiteTurns.Turning.{HasSeenMore}
 use Rattle.chorus_nucleus.specs.Passes.{layout_of, known, caller_of, worn_by, IsPassOf}
 use Rattle.chorus_nucleus.specs.Calls.{Because, worn_after}
-use Rattle.chorus_nucleus.specs.declared.taken_message.TakenMessage.{TakenMessage}
-use Rattle.chorus_nucleus.specs.Taking.{acts_made, Appends, HasOrigin, Answers, SeesMore, KeepsPass, IsByTakes, TakesOn, IsFault, IsTake}
+use Rattle.chorus_nucleus.specs.declared.taken_message.TakeAnswer.{TakeAnswer}
+use Rattle.chorus_nucleus.specs.Taking.{acts_made, Appends, Gives, HasOrigin, SeesMore, KeepsPass, IsByTakes, TakesOn, IsFault, IsTake}
+use Rattle.chorus_nucleus.specs.Answers.{reply_of}
 use Rattle.chorus_nucleus.proofs.Behind.{more-itself}
 use Rattle.chorus_nucleus.proofs.TakeTurns.{sees-same, takes-nothing}
 
@@ -104,7 +106,7 @@ pub record Waited (n : Nucleus) (old new : Pass) : Type 0 where
 pub waited-none : (n : Nucleus) (p : Pass) → IsPassOf n p → Waited n p p
 waited-none n p is = record { keeps = keeps-none n p is; mine = refl; caller = refl; worn = refl }
 
-worn-busy : (o : Option ℕ) (by : ℕ) → worn_after {T = Option TakenMessage} o (Err (CallFault.Busy by)) ≡ o
+worn-busy : (o : Option ℕ) (by : ℕ) → worn_after {T = TakeAnswer} o (Err (CallFault.Busy by)) ≡ o
 worn-busy None by = refl
 worn-busy (Some clock) by = refl
 
@@ -116,9 +118,8 @@ waited-more n q by a b c w t = record {
   worn = t.worn ∙ worn-busy (worn_by b) by ∙ w.worn;
 }
 
-answers-from : (l : Layout) (q : Ui) (a : Option TakenMessage) (v m u : Knowledge PlaceNote) → m.mine ≡ v.mine → Answers l q a m u → Answers l q a v u
-answers-from l q None v m u same h = record { act = h.act; miss = h.miss; appends = appends-from (h.act ∷ []) v m u same h.appends }
-answers-from l q (Some t) v m u same h = record { appends = appends-from _ v m u same h.appends; origin = h.origin }
+gives-from : (l : Layout) (q : Ui) (r : Reply) (v m u : Knowledge PlaceNote) → m.mine ≡ v.mine → Gives l q r m u → Gives l q r v u
+gives-from l q r v m u same h = record { appends = appends-from (taken_acts q r) v m u same h.appends; origin = h.origin }
 
 fault-from : (n : Nucleus) (q : Ui) (f : CallFault) (a b c : Pass) → Waited n a b → IsFault n q f b c → IsFault n q f a c
 fault-from n q f a b c w h = record {
@@ -129,20 +130,20 @@ fault-from n q f a b c w h = record {
   caller = subst (λ z. HasSeenMore z (caller_of c)) w.caller h.caller;
 }
 
-pub take-after : (n : Nucleus) (q : Ui) (r : Result (Option TakenMessage) CallFault) (a b c : Pass) → Waited n a b → IsTake n q r b c → IsTake n q r a c
+pub take-after : (n : Nucleus) (q : Ui) (r : Result TakeAnswer CallFault) (a b c : Pass) → Waited n a b → IsTake n q r b c → IsTake n q r a c
 take-after n q (Ok t) a b c w h = record {
   keeps = keeps-then n a b c w.keeps h.keeps;
   goes = takes-then n q a b c w.keeps.actor (takes-nothing n q a b w.mine (subst (HasSeenMore (caller_of a)) (sym w.caller) (more-itself (caller_of a)))) h.goes;
-  answer = answers-from (layout_of n) q t (known a) (known b) (known c) w.mine h.answer;
+  answer = gives-from (layout_of n) q (reply_of t) (known a) (known b) (known c) w.mine h.answer;
   fault = tt;
-  worn = h.worn ∙ ap (λ o. worn_after {T = Option TakenMessage} o (Ok t)) w.worn;
+  worn = h.worn ∙ ap (λ o. worn_after {T = TakeAnswer} o (Ok t)) w.worn;
 }
 take-after n q (Err f) a b c w h = record {
   keeps = keeps-then n a b c w.keeps h.keeps;
   goes = takes-then n q a b c w.keeps.actor (takes-nothing n q a b w.mine (subst (HasSeenMore (caller_of a)) (sym w.caller) (more-itself (caller_of a)))) h.goes;
   answer = tt;
   fault = fault-from n q f a b c w h.fault;
-  worn = h.worn ∙ ap (λ o. worn_after {T = Option TakenMessage} o (Err f)) w.worn;
+  worn = h.worn ∙ ap (λ o. worn_after {T = TakeAnswer} o (Err f)) w.worn;
 }
 
 pub ruleset trying = (waited-none, waited-more, take-after)

@@ -8,7 +8,10 @@ pub mod Pumping
 pub mod Leaving
 pub mod Closing
 pub mod Runs
+pub mod Answers
 pub mod Taking
+pub mod Posted
+pub mod Rounds
 pub mod Leavings
 pub mod Apart
 pub mod SiteTurns

@@ -32,7 +32,8 @@ use Rattle.chorus_nucleus.specs.declared.pass.Pass.{Pass}
 use Rattle.chorus_nucleus.specs.SiteTurns.Turning.{HasSeenMore}
 use Rattle.chorus_nucleus.specs.Passes.{layout_of, known, caller_of, worn_by, sight_of, IsPassOf}
 use Rattle.chorus_nucleus.specs.Calls.{Because, place_of, worn_after}
-use Rattle.chorus_nucleus.specs.declared.taken_message.TakenMessage.{TakenMessage}
+use Rattle.chorus_nucleus.specs.declared.taken_message.TakeAnswer.{TakeAnswer}
+use Rattle.chorus_nucleus.specs.Answers.{reply_of}
 
 -- the acts of what a pass made, in order
 abbrev pub acts_made : List (Placed PlaceNote) → List Act
@@ -48,11 +49,6 @@ pub record Appends (acts : List Act) (v u : Knowledge PlaceNote) : Type 0 where
 abbrev pub IsMiss : Ui → Act → Type 0
 IsMiss q a = (a ≡ Act.Empty q) ⊎ (a ≡ Act.NotHere q)
 
-pub record Misses (q : Ui) (v u : Knowledge PlaceNote) : Type 0 where
-  pub act : Act
-  pub miss : IsMiss q act
-  pub appends : Appends (act ∷ []) v u
-
 -- The turn that gave a reply: a place of the layout whose turns were those of the journal `found` gives it to a take of
 -- the port. The pass has seen that journal, so it is a beginning of the place's when all is closed.
 pub record HasOrigin (l : Layout) (q : Ui) (r : Reply) (v : Knowledge PlaceNote) : Type 0 where
@@ -65,17 +61,11 @@ pub record HasOrigin (l : Layout) (q : Ui) (r : Reply) (v : Knowledge PlaceNote)
   pub gives : reply (Command.Take q) (begun state caller) ≡ r
   pub seen : StartsWith (seen_at place v) found
 
--- a message was taken: the Take stands there with what ends the call behind it
+-- A take of the port was answered by this reply: of a message the Take stands there, with what ends the call behind it;
+-- of one in vain its Empty or NotHere alone.
 pub record Gives (l : Layout) (q : Ui) (r : Reply) (v u : Knowledge PlaceNote) : Type 0 where
   pub appends : Appends (taken_acts q r) v u
   pub origin : HasOrigin l q r u
-
-abbrev pub reply_with : TakenMessage → Reply
-reply_with m = Reply.Taken m.position m.message m.settled
-
-abbrev pub Answers : Layout → Ui → Option TakenMessage → Knowledge PlaceNote → Knowledge PlaceNote → Type 0
-Answers l q None v u = Misses q v u
-Answers l q (Some m) v u = Gives l q (reply_with m) v u
 
 -- of each place the pass has seen what it had seen, and maybe more
 abbrev pub SeesMore : Knowledge PlaceNote → Knowledge PlaceNote → Type 0
@@ -118,10 +108,10 @@ pub record IsFault (n : Nucleus) (q : Ui) (f : CallFault) (old new : Pass) : Typ
   pub caller : HasSeenMore (caller_of old) (caller_of new)
 
 -- what a take of the port did
-pub record IsTake (n : Nucleus) (q : Ui) (r : Result (Option TakenMessage) CallFault) (old new : Pass) : Type 0 where
+pub record IsTake (n : Nucleus) (q : Ui) (r : Result TakeAnswer CallFault) (old new : Pass) : Type 0 where
   pub keeps : KeepsPass n old new
   pub goes : TakesOn n q old new
-  pub answer : IfOk r (λ a. Answers (layout_of n) q a (known old) (known new))
+  pub answer : IfOk r (λ a. Gives (layout_of n) q (reply_of a) (known old) (known new))
   pub fault : IfErr r (λ f. IsFault n q f old new)
   pub worn : worn_by new ≡ worn_after (worn_by old) r
 

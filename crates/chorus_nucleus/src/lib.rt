@@ -41,5 +41,5 @@ pub use laws::{a_closed_nucleus_is_a_run, each_message_stands_once};
 pub use locate::ReadersFull;
 pub use nucleus::Nucleus;
 pub use pass::Pass;
-pub use taken_message::TakenMessage;
+pub use taken_message::{TakeAnswer, TakenMessage};
 pub use taking::{take_once, take_when_free};

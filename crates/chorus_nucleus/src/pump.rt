@@ -35,8 +35,8 @@ impl Nucleus {
         requires caller { IsCallerOf self.now.layout (turns.known turner.old) caller }
         ensures turner { turns.IsPassOf self.now.turns turner.new }
         ensures standing { IsSamePass (turns.known turner.old) (turns.known turner.new) }
-        ensures done { PumpDone self.now place reader result.1 result.2 (turns.known turner.old) caller
-            (turns.known turner.new) result.0 }
+        ensures done { PumpDone self.now place reader result.1 result.2
+            (turns.known turner.old) caller (turns.known turner.new) result.0 }
     {
         let mut job = Pumps {
             serves: Serves {

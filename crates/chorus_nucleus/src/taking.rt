@@ -7,21 +7,17 @@ ghost use Rattle.chorus_nucleus.specs.Taking.{IsTake, is_busy};
 use crate::fault::CallFault;
 use crate::nucleus::Nucleus;
 use crate::pass::Pass;
-use crate::taken_message::TakenMessage;
+use crate::taken_message::{ByTake, TakeAnswer, TakenMessage};
 use chorus_ui::Ui;
 use law_machine::Reply;
 use std::sync::Wait;
 use std::thread;
 
-/// Takes the first message of the port, in one turn at the port's place on the caller's site. None comes exactly where
-/// the caller's actor does not hold the port there, or no message waits in it. The faults are those of
-/// [`Nucleus::take`], which tries the place once.
+/// Takes the first message of the port, in one turn at the port's place on the caller's site. `NotHere` comes exactly
+/// where the caller's actor does not hold the port there, and `Empty` exactly where it does and no message waits. The
+/// faults are those of [`Nucleus::take`], which tries the place once.
 #[tactic(auto, using(crate::proofs::TakeTurns::calls))]
-pub fn take_once(
-    nucleus: &Nucleus,
-    pass: &mut Pass,
-    port: Ui,
-) -> Result<Option<TakenMessage>, CallFault>
+pub fn take_once(nucleus: &Nucleus, pass: &mut Pass, port: Ui) -> Result<TakeAnswer, CallFault>
     requires pass { IsPassOf nucleus.now pass.old }
     requires port { is_port port ≡ true }
     ensures { IsTake nucleus.now port result pass.old pass.new }
@@ -33,13 +29,14 @@ pub fn take_once(
                 message,
                 settled,
             },
-        ) => Ok(Some(TakenMessage {
+        ) => Ok(TakeAnswer::Took(TakenMessage {
             position: pos,
             message,
             settled,
+            by_take: ByTake,
         })),
-        Ok(Reply::Empty) => Ok(None),
-        Ok(Reply::NotHere) => Ok(None),
+        Ok(Reply::Empty) => Ok(TakeAnswer::Empty),
+        Ok(Reply::NotHere) => Ok(TakeAnswer::NotHere),
         Ok(_) => unreachable!(),
         Err(fault) => Err(fault),
     }
@@ -53,7 +50,7 @@ pub fn take_when_free<R: Wait>(
     nucleus: &Nucleus,
     pass: &mut Pass,
     port: Ui,
-) -> Result<Option<TakenMessage>, CallFault>
+) -> Result<TakeAnswer, CallFault>
     requires pass { IsPassOf nucleus.now pass.old }
     requires port { is_port port ≡ true }
     ensures take { IsTake nucleus.now port result pass.old pass.new }

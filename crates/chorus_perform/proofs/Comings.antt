@@ -22,11 +22,12 @@ use Rattle.chorus_scene.specs.Limits.{Keeps, script_keeps, command_keeps, comman
 use Rattle.chorus_scene.specs.Grammar.{most_bytes}
 use Rattle.chorus_nucleus.specs.declared.nucleus.Nucleus.{Nucleus}
 use Rattle.chorus_nucleus.specs.declared.pass.Pass.{Pass}
-use Rattle.chorus_nucleus.specs.Passes.{known, caller_of, IsPassOf}
+use Rattle.chorus_nucleus.specs.Passes.{known, caller_of, worn_by, IsPassOf}
 use Rattle.chorus_nucleus.specs.Coming.{Enters}
 use Rattle.chorus_perform.specs.declared.runner.Runner.{Runner}
 use Rattle.chorus_perform.specs.declared.stopped.Halted.{Halted}
 use Rattle.chorus_perform.specs.Going.{Goes, GoesAsFar, MayPost, AllMeet}
+use Rattle.chorus_perform.specs.Halting.{IsHalted}
 use Rattle.chorus_perform.specs.Runners.{AreReady, AreEntered, HasEntered, IsNew, IsReadyAt, HasRunAt}
 
 -- A script of the scenario.
@@ -73,8 +74,8 @@ module _ (c : Scene) (keeps : Keeps c) (i : ℕ) (script : Script) (at : slice_g
 
 -- It runs.
 
-pub has-run : (n : Nucleus) (c : Scene) (i : ℕ) (script : Script) (a : Runner) (d : Pass) (cs : List Command) (r : Result (Unit {0}) Halted) (b : Bool) → slice_get c.scripts i ≡ Some script → b ≡ is_ok r → IsPassOf n d → cs ≡ script.commands → OnOk r (Goes cs a.pass d) → OnErr r (GoesAsFar cs a.pass d) → HasRunAt n c i a (record { pass = d; done = b })
-has-run n c i script a d cs (Ok u) b at is pass same ok err = record {
+pub has-run : (n : Nucleus) (c : Scene) (i : ℕ) (script : Script) (a : Runner) (d : Pass) (cs : List Command) (r : Result (Unit {0}) Halted) (b : Bool) → slice_get c.scripts i ≡ Some script → b ≡ is_ok r → IsPassOf n d → cs ≡ script.commands → OnOk r (Goes cs a.pass d) → OnErr r (GoesAsFar cs a.pass d) → OnOk r (worn_by d ≡ worn_by a.pass) → OnErr r (IsHalted n d) → HasRunAt n c i a (record { pass = d; done = b })
+has-run n c i script a d cs (Ok u) b at is pass same ok err unworn halted = record {
   pass = pass;
   script = script;
   is = at;
@@ -83,8 +84,10 @@ has-run n c i script a d cs (Ok u) b at is pass same ok err = record {
   whole = sym same ∙ sym (append-nil cs);
   goes = ok;
   all = λ e. refl;
+  unworn = λ e. unworn;
+  halted = λ e. absurd (false≢true (sym e ∙ is));
 }
-has-run n c i script a d cs (Err e) b at is pass same ok err = record {
+has-run n c i script a d cs (Err e) b at is pass same ok err unworn halted = record {
   pass = pass;
   script = script;
   is = at;
@@ -93,12 +96,14 @@ has-run n c i script a d cs (Err e) b at is pass same ok err = record {
   whole = sym same ∙ err.whole;
   goes = err.goes;
   all = λ e. absurd (false≢true (sym is ∙ e));
+  unworn = λ e. absurd (false≢true (sym is ∙ e));
+  halted = λ e. halted;
 }
 
 -- It comes.
 
-pub entered-more : (n : Nucleus) (actor : Ui) (a b d p : Pass) (k : ℕ) → HasEntered k a b → Enters n actor b d p → caller_of d ≡ caller_of b → HasEntered (k + 1) a d
-entered-more n actor a b d p k e new same = record {
+pub entered-more : (n : Nucleus) (actor : Ui) (a b d p : Pass) (k : ℕ) → HasEntered k a b → Enters n actor b d p → caller_of d ≡ caller_of b → worn_by d ≡ worn_by b → HasEntered (k + 1) a d
+entered-more n actor a b d p k e new same worn = record {
   keeper = record {
     seat = ap (λ (v : Knowledge PlaceNote). v.seat) new.drawn ∙ e.keeper.seat;
     keeper = ap (λ (v : Knowledge PlaceNote). v.keeper) new.drawn ∙ e.keeper.keeper;
@@ -107,10 +112,11 @@ entered-more n actor a b d p k e new same = record {
   };
   mine = ap (λ (v : Knowledge PlaceNote). v.mine) new.drawn ∙ e.mine;
   caller = same ∙ e.caller;
+  worn = worn ∙ e.worn;
 }
 
-pub entered-same : (a b d : Pass) (k : ℕ) → HasEntered k a b → known d ≡ known b → caller_of d ≡ caller_of b → HasEntered k a d
-entered-same a b d k e is same = record {
+pub entered-same : (a b d : Pass) (k : ℕ) → HasEntered k a b → known d ≡ known b → caller_of d ≡ caller_of b → worn_by d ≡ worn_by b → HasEntered k a d
+entered-same a b d k e is same worn = record {
   keeper = record {
     seat = ap (λ (v : Knowledge PlaceNote). v.seat) is ∙ e.keeper.seat;
     keeper = ap (λ (v : Knowledge PlaceNote). v.keeper) is ∙ e.keeper.keeper;
@@ -119,6 +125,7 @@ entered-same a b d k e is same = record {
   };
   mine = ap (λ (v : Knowledge PlaceNote). v.mine) is ∙ e.mine;
   caller = same ∙ e.caller;
+  worn = worn ∙ e.worn;
 }
 
 pub new-ready : (n : Nucleus) (c : Scene) (i : ℕ) (script : Script) (actor : Ui) (b d p : Pass) → slice_get c.scripts i ≡ Some script → i < length c.scripts → Enters n actor b d p → (known b).made ≡ i + 1 → actor ≡ script.actor → IsReadyAt n c i (record { pass = p; done = false })
@@ -133,6 +140,7 @@ new-ready n c i script actor b d p at lt new made who = record {
     keeper = ap (λ (v : Knowledge PlaceNote). v.keeper) new.knows;
     actor_is = ap (λ (w : Seated). w.actor) new.caller ∙ who ∙ ap (λ (s : Script). s.actor) (same-script c.scripts i script other at found);
     posts = ap (λ (w : Seated). w.posts) new.caller;
+    worn = new.worn;
   };
 }
 

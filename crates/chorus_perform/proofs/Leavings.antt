@@ -23,13 +23,14 @@ use Rattle.chorus_report.specs.Setup.{setup_commands}
 use Rattle.chorus_nucleus.proofs.Behind.{more-itself, more-more, shown-more}
 use Rattle.chorus_nucleus.specs.declared.nucleus.Nucleus.{Nucleus}
 use Rattle.chorus_nucleus.specs.declared.pass.Pass.{Pass}
-use Rattle.chorus_nucleus.specs.Passes.{known, caller_of}
+use Rattle.chorus_nucleus.specs.Passes.{known, caller_of, worn_by}
 use Rattle.chorus_nucleus.specs.Calls.{gave}
 use Rattle.law_closing.specs.Actors.{AreIn}
 use Rattle.chorus_nucleus.specs.Coming.{Retires}
 use Rattle.chorus_perform.specs.declared.runner.Runner.{Runner}
 use Rattle.chorus_perform.specs.Going.{Goes, GoesAsFar, BeginAbove, BeginsUpTo, CommandsUpTo}
 use Rattle.chorus_perform.specs.Scripts.{IsPerformedBy, IsOfScript, HasPerformed, IsOpening}
+use Rattle.chorus_perform.proofs.Halts.{retired-unworn}
 use Rattle.chorus_perform.specs.Runners.{IsSetUp, HasEntered, IsReadyAt, HasRunAt, IsEndingAt, AreReady, AreEntered, HaveRun, AreEnding, HasRetired}
 
 -- What a pass that made nothing goes on to make.
@@ -79,6 +80,7 @@ is-ending n c begun i a b r last h = let new = r.new h.script h.is in record {
     seat = h.goes.same.0 ∙ new.seat_is;
     performed = performed-by b.done h.script.actor h.script.commands h.given h.left a.pass b.pass new.mine new.actor_is h.whole h.goes h.all;
   };
+  unworn = λ e. h.unworn e ∙ new.worn;
   later = first-above h.given begun a.pass b.pass new.mine last h.goes;
 }
 
@@ -98,6 +100,7 @@ not-run n c begun i script a at r = let new = r.new script at in record {
       none_left = λ e. absurd (false≢true (sym r.begins ∙ e));
     };
   };
+  unworn = λ e. absurd (false≢true (sym r.begins ∙ e));
   later = none-above begun (known a.pass).mine new.mine;
 }
 
@@ -130,6 +133,7 @@ retired-none c m a none = record {
   keeper = refl;
   made = refl;
   caller = more-itself (caller_of a);
+  unworn = λ e. refl;
 }
 
 abbrev LaterThan : ℕ → Note PlaceNote → Type 0
@@ -146,6 +150,7 @@ retired-more n c all r a b d m count e o w = record {
   keeper = ap (λ (v : Knowledge PlaceNote). v.keeper) w.knows ∙ ap (λ k. if k then true else (known b).keeper) o.keeper ∙ e.keeper;
   made = ap (λ (v : Knowledge PlaceNote). v.made) w.knows ∙ ap (λ k. if k then (known r.pass).made else (known b).made) o.keeper ∙ e.made;
   caller = more-more (caller_of a) (caller_of b) (caller_of d) e.caller (shown-more (caller_of r.pass).last (caller_of b) (caller_of d) w.caller);
+  unworn = λ t. (let both = and_parts r.done all t in retired-unworn (worn_by b) (worn_by r.pass) (worn_by d) w.worn (o.unworn both.0) ∙ e.unworn both.1);
 }
   where
     note : Note PlaceNote
@@ -302,6 +307,7 @@ retired-less c x y m count a b h r = record {
   keeper = r.keeper;
   made = r.made;
   caller = r.caller;
+  unworn = λ e. r.unworn (h e);
 }
 
 -- the scripts were run, as far as they were entered

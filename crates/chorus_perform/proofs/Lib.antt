@@ -1,7 +1,7 @@
 pub mod Steps
+pub mod Halts
 pub mod Lines
 pub mod Comings
 pub mod Leavings
-pub mod Idling
 pub mod Opening
 mod Examples

@@ -1,4 +1,4 @@
 pub mod Going
+pub mod Halting
 pub mod Scripts
-pub mod Rounds
 pub mod Runners

@@ -1,7 +1,7 @@
 -- The passes of scripts come, run and go.
 -- n is a nucleus, c a scenario, i the index of a script, from 0, a and b are a pass, or a runner, before and after,
 -- begun is the clock at which the passes came.
-use Rattle.std.specs.Prelude.{ℕ, ◌≡◌, ◌<◌, ◌+◌, Bool, true, false, List, [], ◌++◌, length, reverse, Some, slice_get, slice_index_or}
+use Rattle.std.specs.Prelude.{ℕ, ◌≡◌, ◌<◌, ◌+◌, Bool, true, false, List, [], ◌++◌, length, reverse, Some, None, slice_get, slice_index_or}
 use Rattle.std.specs.List.{All}
 use Rattle.chorus_ui.specs.declared.ui.Ui.{Ui}
 use Rattle.chorus_entry.specs.declared.command.Command.{Command}
@@ -15,9 +15,10 @@ use Rattle.chorus_report.specs.Setup.{setup_commands}
 use Rattle.chorus_nucleus.specs.SiteTurns.Turning.{HasSeenMore}
 use Rattle.chorus_nucleus.specs.declared.nucleus.Nucleus.{Nucleus}
 use Rattle.chorus_nucleus.specs.declared.pass.Pass.{Pass}
-use Rattle.chorus_nucleus.specs.Passes.{known, caller_of, IsPassOf}
+use Rattle.chorus_nucleus.specs.Passes.{known, caller_of, worn_by, IsPassOf}
 use Rattle.chorus_perform.specs.declared.runner.Runner.{Runner}
 use Rattle.chorus_perform.specs.Going.{Goes, BeginAbove, CommandsUpTo}
+use Rattle.chorus_perform.specs.Halting.{IsHalted}
 use Rattle.chorus_perform.specs.Scripts.{IsPerformedBy, IsOfScript, IsKeeper}
 
 -- Seat 0.
@@ -33,6 +34,7 @@ pub record HasEntered (count : ℕ) (a b : Pass) : Type 0 where
   pub keeper : IsKeeper count b
   pub mine : (known b).mine ≡ (known a).mine
   pub caller : caller_of b ≡ caller_of a
+  pub worn : worn_by b ≡ worn_by a
 
 -- A runner.
 
@@ -44,6 +46,7 @@ pub record IsNew (seat : ℕ) (actor : Ui) (pass : Pass) : Type 0 where
   pub keeper : (known pass).keeper ≡ false
   pub actor_is : (caller_of pass).actor ≡ actor
   pub posts : (caller_of pass).posts ≡ 0
+  pub worn : worn_by pass ≡ None
 
 pub record IsReadyAt (n : Nucleus) (c : Scene) (i : ℕ) (r : Runner) : Type 0 where
   pub inside : i < length c.scripts
@@ -51,7 +54,7 @@ pub record IsReadyAt (n : Nucleus) (c : Scene) (i : ℕ) (r : Runner) : Type 0 w
   pub pass : IsPassOf n r.pass
   pub new : (script : Script) → slice_get c.scripts i ≡ Some script → IsNew (i + 1) script.actor r.pass
 
--- the runner performed the commands of its script, or where it stopped the first of them
+-- the runner performed the commands of its script, and no clock was worn, or where it halted the first of them
 pub record HasRunAt (n : Nucleus) (c : Scene) (i : ℕ) (a b : Runner) : Type 0 where
   pub pass : IsPassOf n b.pass
   pub script : Script
@@ -61,6 +64,8 @@ pub record HasRunAt (n : Nucleus) (c : Scene) (i : ℕ) (a b : Runner) : Type 0 
   pub whole : script.commands ≡ given ++ left
   pub goes : Goes given a.pass b.pass
   pub all : b.done ≡ true → left ≡ []
+  pub unworn : b.done ≡ true → worn_by b.pass ≡ worn_by a.pass
+  pub halted : b.done ≡ false → IsHalted n b.pass
 
 -- what the runner made is of its script, all of it where it is done
 pub record IsEndingAt (n : Nucleus) (c : Scene) (begun i : ℕ) (r : Runner) : Type 0 where
@@ -68,6 +73,7 @@ pub record IsEndingAt (n : Nucleus) (c : Scene) (begun i : ℕ) (r : Runner) : T
   pub notes : (known r.pass).notes ≡ []
   pub keeper : (known r.pass).keeper ≡ false
   pub script : IsOfScript r.done c i (note_of (known r.pass))
+  pub unworn : r.done ≡ true → worn_by r.pass ≡ None
   pub later : BeginAbove begun (turns_in (known r.pass).mine)
 
 -- Runners, that of script i + 1 at i.
@@ -99,3 +105,4 @@ pub record HasRetired (all : Bool) (c : Scene) (m count : ℕ) (a b : Pass) : Ty
   pub keeper : (known b).keeper ≡ (known a).keeper
   pub made : (known b).made ≡ (known a).made
   pub caller : HasSeenMore (caller_of a) (caller_of b)
+  pub unworn : all ≡ true → worn_by b ≡ worn_by a

@@ -3,8 +3,9 @@
 ghost use Rattle.std.specs.Prelude.{◌≡◌, ◌≢◌, ◌<◌, [], ◌∷◌, true, length, Ok, OnOk, OnErr};
 ghost use Rattle.chorus_ui.specs.Layout.{places};
 ghost use Rattle.chorus_entry.specs.Command.{is_post, meets_conditions};
-ghost use Rattle.chorus_nucleus.specs.Passes.{caller_of, layout_of, IsPassOf};
+ghost use Rattle.chorus_nucleus.specs.Passes.{caller_of, layout_of, worn_by, IsPassOf};
 ghost use Rattle.chorus_perform.specs.Going.{AllMeet, Goes, GoesAsFar, MayPost};
+ghost use Rattle.chorus_perform.specs.Halting.{IsHalted, IsTried};
 
 use crate::at_work::AtWork;
 use crate::gate::Gate;
@@ -38,6 +39,8 @@ pub(crate) fn perform_commands<R: Wait, G: Gate>(
     ensures pass { IsPassOf nucleus.now pass.new }
     ensures ok { OnOk result (Goes commands.now pass.old pass.new) }
     ensures err { OnErr result (GoesAsFar commands.now pass.old pass.new) }
+    ensures unworn { OnOk result (worn_by pass.new ≡ worn_by pass.old) }
+    ensures halted { OnErr result (IsHalted nucleus.now pass.new) }
 {
     let mut pace = Pace::new();
     for step in 0..commands.len() {
@@ -63,6 +66,8 @@ pub fn perform_command<R: Wait>(
     ensures pass { IsPassOf nucleus.now pass.new }
     ensures ok { OnOk result (Goes (command.now ∷ []) pass.old pass.new) }
     ensures err { OnErr result (Goes [] pass.old pass.new) }
+    ensures unworn { OnOk result (worn_by pass.new ≡ worn_by pass.old) }
+    ensures halted { OnErr result (IsHalted nucleus.now pass.new) }
 {
     let mut tries = 0;
     for _ in rt.forever() {
@@ -82,11 +87,13 @@ fn try_command(nucleus: &Nucleus, pass: &mut Pass, command: &Command) -> Result<
     ensures pass { IsPassOf nucleus.now pass.new }
     ensures done { result ≡ Ok true → Goes (command.now ∷ []) pass.old pass.new }
     ensures not_done { result ≢ Ok true → Goes [] pass.old pass.new }
+    ensures told { IsTried nucleus.now command.now pass.old pass.new result }
 {
     match nucleus.act(pass, command) {
         Ok(_) => Ok(true),
         Err(CallFault::Busy { .. }) => Ok(false),
-        Err(_) => Err(Halted),
+        Err(CallFault::Memory(_)) => Err(Halted),
+        Err(CallFault::Worn { .. }) => Err(Halted),
     }
 }
 

@@ -5,7 +5,7 @@ ghost use Rattle.std.specs.declared.alloc.AllocError.{AllocError};
 ghost use Rattle.chorus_scene.specs.Limits.{Keeps};
 ghost use Rattle.chorus_nucleus.specs.SiteTurns.Turning.{HasSeenMore};
 ghost use Rattle.chorus_nucleus.specs.Passes.{caller_of, known, layout_of, worn_by, IsPassOf};
-ghost use Rattle.chorus_perform.specs.Rounds.{IsEven};
+ghost use Rattle.chorus_nucleus.specs.Rounds.{IsEven};
 ghost use Rattle.chorus_perform.specs.Scripts.{HasPerformed, IsOpening};
 ghost use Rattle.chorus_perform.specs.Runners.{IsSetUp};
 
@@ -26,9 +26,9 @@ use std::thread::Threads;
 /// be made, which performs its commands in their order; their passes are retired; and seat 0 pumps all places until nothing is left.
 /// The schedule is not used.
 ///
-/// Want of memory in one thread ends that thread alone. `Stopped` comes when all have come to an end: every pass that was entered is
-/// retired, and each performed the first of its commands. `Worn` comes only with the clock that `pass.worn()` then has, `Memory` only
-/// where that has none.
+/// At Ok no pass was told a worn clock. Want of memory in one thread ends that thread alone. `Stopped` comes when all have come to an
+/// end: every pass that was entered is retired, and each performed the first of its commands. `Worn` comes only with the clock that
+/// `pass.worn()` then has, `Memory` only where that has none.
 pub fn perform<R: Threads + Wait + Sync, G: Gate>(
     alloc: Global,
     rt: &R,
@@ -44,6 +44,7 @@ pub fn perform<R: Threads + Wait + Sync, G: Gate>(
     ensures ok { OnOk result (HasPerformed true scenario.now (known pass.new)) }
     ensures even { OnOk result (IsEven (layout_of nucleus.now) (known pass.new)) }
     ensures stopped { OnErr result (HasPerformed false scenario.now (known pass.new)) }
+    ensures unworn { OnOk result (worn_by pass.new ≡ worn_by pass.old) }
     ensures worn { (clock : ℕ) → IsErrOf result (Stopped.Worn clock) →
         worn_by pass.new ≡ Some clock }
     ensures memory { (none : AllocError) → IsErrOf result (Stopped.Memory none) →
@@ -71,6 +72,7 @@ fn perform_all<R: Threads + Wait + Sync, G: Gate>(
     ensures ok { OnOk result (HasPerformed true scenario.now (known pass.new)) }
     ensures even { OnOk result (IsEven (layout_of nucleus.now) (known pass.new)) }
     ensures stopped { OnErr result (HasPerformed false scenario.now (known pass.new)) }
+    ensures unworn { OnOk result (worn_by pass.new ≡ worn_by pass.old) }
 {
     let _layout = scenario.layout(); // tells what a scenario keeps
     set_up(rt, nucleus, pass, scenario)?;
@@ -96,6 +98,7 @@ fn run_scripts<R: Threads + Wait + Sync, G: Gate>(
     ensures pass { IsPassOf nucleus.now pass.new }
     ensures performed { HasPerformed result scenario.now (known pass.new) }
     ensures caller { HasSeenMore (caller_of pass.old) (caller_of pass.new) }
+    ensures unworn { result ≡ true → worn_by pass.new ≡ worn_by pass.old }
 {
     let Ok(mut runners) = Vec::with_capacity(alloc, scenario.scripts().len()) else {
         return false;

@@ -1,9 +1,10 @@
 //! A thread pumps.
 
-ghost use Rattle.std.specs.Prelude.{◌≡◌, ◌<◌, ◌≤◌, [], true, IfSome};
+ghost use Rattle.std.specs.Prelude.{◌≡◌, ◌<◌, ◌≤◌, [], true, IfSome, OnOk, OnErr};
 ghost use Rattle.chorus_ui.specs.Layout.{has_place, places};
-ghost use Rattle.chorus_nucleus.specs.Passes.{layout_of, IsPassOf};
+ghost use Rattle.chorus_nucleus.specs.Passes.{layout_of, worn_by, IsPassOf};
 ghost use Rattle.chorus_perform.specs.Going.{Goes};
+ghost use Rattle.chorus_perform.specs.Halting.{IsHalted, IsPumped};
 
 use crate::at_work::{AtWork, Told};
 use crate::lately::Lately;
@@ -50,6 +51,7 @@ fn pump<R: Wait>(rt: &R, nucleus: &Nucleus, pass: &mut Pass, place: u16) -> Resu
     requires place { has_place (layout_of nucleus.now) place ≡ true }
     ensures pass { IsPassOf nucleus.now pass.new }
     ensures goes { Goes [] pass.old pass.new }
+    ensures told { IsPumped nucleus.now place pass.old pass.new result }
 {
     match nucleus.serve(rt, pass, place) {
         Ok(Pump::Served { from }) => Ok(Pumped::Served { from }),
@@ -57,7 +59,8 @@ fn pump<R: Wait>(rt: &R, nucleus: &Nucleus, pass: &mut Pass, place: u16) -> Resu
             under_way: put.wrapping_sub(worked),
         }),
         Err(CallFault::Busy { .. }) => Ok(Pumped::Busy),
-        Err(_) => Err(Halted),
+        Err(CallFault::Memory(_)) => Err(Halted),
+        Err(CallFault::Worn { .. }) => Err(Halted),
     }
 }
 
@@ -73,6 +76,8 @@ pub(crate) fn pump_behind<R: Wait>(
     requires share { share.now.places ≡ places (layout_of nucleus.now) }
     ensures pass { IsPassOf nucleus.now pass.new }
     ensures goes { Goes [] pass.old pass.new }
+    ensures unworn { OnOk result (worn_by pass.new ≡ worn_by pass.old) }
+    ensures halted { OnErr result (IsHalted nucleus.now pass.new) }
 {
     if pace.is_due() {
         let visit = pump_at(rt, nucleus, pass, share.home(), PUMPS_AT_A_PLACE)?;
@@ -93,6 +98,8 @@ pub(crate) fn pump_at<R: Wait>(
     requires place { has_place (layout_of nucleus.now) place ≡ true }
     ensures pass { IsPassOf nucleus.now pass.new }
     ensures goes { Goes [] pass.old pass.new }
+    ensures unworn { OnOk result (worn_by pass.new ≡ worn_by pass.old) }
+    ensures halted { OnErr result (IsHalted nucleus.now pass.new) }
 {
     let mut from = None;
     for count in 0..most {
@@ -133,6 +140,8 @@ fn stay_at<R: Wait>(
     requires place { has_place (layout_of nucleus.now) place ≡ true }
     ensures pass { IsPassOf nucleus.now pass.new }
     ensures goes { Goes [] pass.old pass.new }
+    ensures unworn { OnOk result (worn_by pass.new ≡ worn_by pass.old) }
+    ensures halted { OnErr result (IsHalted nucleus.now pass.new) }
 {
     let most = stay.pumps_at(place);
     let mut visit = pump_at(rt, nucleus, pass, place, most)?;
@@ -167,6 +176,8 @@ fn follow<R: Wait>(
     requires place { has_place (layout_of nucleus.now) place ≡ true }
     ensures pass { IsPassOf nucleus.now pass.new }
     ensures goes { Goes [] pass.old pass.new }
+    ensures unworn { OnOk result (worn_by pass.new ≡ worn_by pass.old) }
+    ensures halted { OnErr result (IsHalted nucleus.now pass.new) }
 {
     let layout = nucleus.layout();
     let first = stay_at(rt, nucleus, pass, place, stay)?;
@@ -193,6 +204,8 @@ pub(crate) fn pump_on<R: Wait>(
     requires share { share.now.places ≡ places (layout_of nucleus.now) }
     ensures pass { IsPassOf nucleus.now pass.new }
     ensures goes { Goes [] pass.old pass.new }
+    ensures unworn { OnOk result (worn_by pass.new ≡ worn_by pass.old) }
+    ensures halted { OnErr result (IsHalted nucleus.now pass.new) }
 {
     pump_at(rt, nucleus, pass, share.home(), PUMPS_AT_A_PLACE)?;
     let range = share.range(at_work.finish());
@@ -217,6 +230,8 @@ fn sweep_on<R: Wait>(
     requires range { range.last ≤ places (layout_of nucleus.now) }
     ensures pass { IsPassOf nucleus.now pass.new }
     ensures goes { Goes [] pass.old pass.new }
+    ensures unworn { OnOk result (worn_by pass.new ≡ worn_by pass.old) }
+    ensures halted { OnErr result (IsHalted nucleus.now pass.new) }
 {
     let mut told = Told::new();
     let mut lately = Lately::new();
@@ -251,6 +266,8 @@ fn look_round<R: Wait>(
     requires share { share.now.places ≡ places (layout_of nucleus.now) }
     ensures pass { IsPassOf nucleus.now pass.new }
     ensures goes { Goes [] pass.old pass.new }
+    ensures unworn { OnOk result (worn_by pass.new ≡ worn_by pass.old) }
+    ensures halted { OnErr result (IsHalted nucleus.now pass.new) }
 {
     if idle % HELP != 1 {
         thread::yield_now();
@@ -277,6 +294,8 @@ fn pump_due<R: Wait>(
     requires place { has_place (layout_of nucleus.now) place ≡ true }
     ensures pass { IsPassOf nucleus.now pass.new }
     ensures goes { Goes [] pass.old pass.new }
+    ensures unworn { OnOk result (worn_by pass.new ≡ worn_by pass.old) }
+    ensures halted { OnErr result (IsHalted nucleus.now pass.new) }
 {
     if is_due {
         follow(rt, nucleus, pass, place, stay)
@@ -303,6 +322,8 @@ fn sweep<R: Wait>(
     requires range { range.last ≤ places (layout_of nucleus.now) }
     ensures pass { IsPassOf nucleus.now pass.new }
     ensures goes { Goes [] pass.old pass.new }
+    ensures unworn { OnOk result (worn_by pass.new ≡ worn_by pass.old) }
+    ensures halted { OnErr result (IsHalted nucleus.now pass.new) }
 {
     let mut under_way = Some(0);
     for index in range.before..range.last {

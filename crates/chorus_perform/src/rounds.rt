@@ -1,10 +1,11 @@
 //! Seat 0 pumps all places until nothing is left.
 
-ghost use Rattle.std.specs.Prelude.{◌≡◌, ◌<◌, ◌+◌, [], true, Ok, OnOk};
+ghost use Rattle.std.specs.Prelude.{◌≡◌, ◌<◌, ◌+◌, [], true, Ok, OnOk, OnErr};
 ghost use Rattle.chorus_ui.specs.Layout.{has_place};
-ghost use Rattle.chorus_nucleus.specs.Passes.{known, layout_of, IsPassOf};
+ghost use Rattle.chorus_nucleus.specs.Passes.{known, layout_of, worn_by, IsPassOf};
 ghost use Rattle.chorus_perform.specs.Going.{Goes};
-ghost use Rattle.chorus_perform.specs.Rounds.{IsEven, IsRound};
+ghost use Rattle.chorus_perform.specs.Halting.{IsHalted, IsPumped};
+ghost use Rattle.chorus_nucleus.specs.Rounds.{IsEven, IsRound};
 
 use crate::pace::PUMPS_AT_A_PLACE;
 use crate::pumping::pump_at;
@@ -25,6 +26,8 @@ pub fn settle<R: Wait>(rt: &R, nucleus: &Nucleus, pass: &mut Pass) -> Result<(),
     ensures pass { IsPassOf nucleus.now pass.new }
     ensures goes { Goes [] pass.old pass.new }
     ensures even { OnOk result (IsEven (layout_of nucleus.now) (known pass.new)) }
+    ensures unworn { OnOk result (worn_by pass.new ≡ worn_by pass.old) }
+    ensures halted { OnErr result (IsHalted nucleus.now pass.new) }
 {
     for _ in rt.forever() {
         work_off(rt, nucleus, pass)?;
@@ -40,6 +43,8 @@ fn work_off<R: Wait>(rt: &R, nucleus: &Nucleus, pass: &mut Pass) -> Result<(), H
     requires pass { IsPassOf nucleus.now pass.old }
     ensures pass { IsPassOf nucleus.now pass.new }
     ensures goes { Goes [] pass.old pass.new }
+    ensures unworn { OnOk result (worn_by pass.new ≡ worn_by pass.old) }
+    ensures halted { OnErr result (IsHalted nucleus.now pass.new) }
 {
     for index in 0..nucleus.layout().places() {
         pump_at(rt, nucleus, pass, index + 1, PUMPS_AT_A_PLACE)?;
@@ -53,6 +58,8 @@ fn round<R: Wait>(rt: &R, nucleus: &Nucleus, pass: &mut Pass) -> Result<bool, Ha
     ensures pass { IsPassOf nucleus.now pass.new }
     ensures goes { Goes [] pass.old pass.new }
     ensures even { result ≡ Ok true → IsEven (layout_of nucleus.now) (known pass.new) }
+    ensures unworn { OnOk result (worn_by pass.new ≡ worn_by pass.old) }
+    ensures halted { OnErr result (IsHalted nucleus.now pass.new) }
 {
     let count = nucleus.layout().places();
     let mut sums = Sums {
@@ -97,6 +104,7 @@ fn visit<R: Wait>(
     ensures goes { Goes [] pass.old pass.new }
     ensures round { sums.new.idle ≡ true →
         IsRound (index + 1) sums.new.put sums.new.worked (known pass.new) }
+    ensures told { IsPumped nucleus.now (index + 1) pass.old pass.new result }
 {
     match nucleus.serve(rt, pass, index + 1) {
         Ok(Pump::Idle { put, worked }) => {
@@ -113,7 +121,11 @@ fn visit<R: Wait>(
             thread::yield_now();
             Ok(())
         }
-        Err(_) => {
+        Err(CallFault::Memory(_)) => {
+            sums.idle = false;
+            Err(Halted)
+        }
+        Err(CallFault::Worn { .. }) => {
             sums.idle = false;
             Err(Halted)
         }

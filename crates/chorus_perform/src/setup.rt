@@ -3,8 +3,9 @@
 ghost use Rattle.std.specs.Prelude.{◌≡◌, OnOk, OnErr};
 ghost use Rattle.chorus_scene.specs.Limits.{Keeps};
 ghost use Rattle.chorus_report.specs.Setup.{setup_commands};
-ghost use Rattle.chorus_nucleus.specs.Passes.{IsPassOf};
+ghost use Rattle.chorus_nucleus.specs.Passes.{worn_by, IsPassOf};
 ghost use Rattle.chorus_perform.specs.Going.{Goes, GoesAsFar};
+ghost use Rattle.chorus_perform.specs.Halting.{IsHalted};
 
 use crate::commands::perform_command;
 use crate::stopped::Halted;
@@ -25,6 +26,8 @@ pub(crate) fn set_up<R: Wait>(
     ensures pass { IsPassOf nucleus.now pass.new }
     ensures ok { OnOk result (Goes (setup_commands scenario.now) pass.old pass.new) }
     ensures err { OnErr result (GoesAsFar (setup_commands scenario.now) pass.old pass.new) }
+    ensures unworn { OnOk result (worn_by pass.new ≡ worn_by pass.old) }
+    ensures halted { OnErr result (IsHalted nucleus.now pass.new) }
 {
     for index in 0..scenario.setup().len() {
         let command = setup_command(&scenario.setup()[index]);

@@ -16,7 +16,8 @@ pub enum Stopped {
     Worn { clock: u64 },
 }
 
-/// A pass stopped: for the clock that it was told as worn, if it was told one (`Pass::worn` then has it), else for want of memory.
+/// A pass stopped: its last call was told that a clock was worn, which `Pass::worn` then has if it is the first, or that there was no
+/// memory; not that a place was busy.
 /// The nucleus and the pass are sound still: more calls may be tried, and the pass may be retired, or close the nucleus.
 #[derive(Clone, Copy, Debug)]
 pub struct Halted;

@@ -1,10 +1,11 @@
 -- How a replay ends, and how a load does.
-use Rattle.std.proofs.Common.{ℕ, ◌≡◌, List, reverse, Option, Some, None, IfSome, IfOk, Result, Ok, Err, subst}
+use Rattle.std.proofs.Common.{ℕ, ◌≡◌, List, reverse, Option, Some, None, IfSome, IfOk, Result, Ok, Err, sym, subst}
 use Rattle.std.specs.declared.alloc.AllocError.{AllocError}
 use Rattle.chorus_ui.specs.declared.layout.Layout.{Layout}
 use Rattle.chorus_ui.specs.Layout.{IsLayout}
 use Rattle.law_network.specs.Tasks.{Task}
 use Rattle.chorus_net.specs.declared.closed.Closed.{Closed}
+use Rattle.chorus_net.specs.Closing.{HasMark}
 use Rattle.chorus_scene.specs.Scene.{Scene}
 use Rattle.chorus_scene.specs.Limits.{Keeps}
 use Rattle.chorus_show.specs.declared.status.Status.{Status}
@@ -55,3 +56,8 @@ loads-so first commands can r s o played f =
     by : (o : Option Closed) → IfSome o (IsOrdered load_layout (load_tasks first commands) s) → IfSome o (Loads first commands s)
     by None is = tt
     by (Some closed) is = loads first commands s closed is
+
+-- what was closed is of the sites with this mark, and so it is when the call is finished
+pub still-marked : (mark : ℕ) (r : Result Played AllocError) (s : Status) (o : Option Closed) → IfOk r (λ p. HasMark mark p.closed) → IfSome o (IsFinished r s) → IfSome o (HasMark mark)
+still-marked mark r s None h f = tt
+still-marked mark r s (Some closed) h f = subst (HasMark mark) (sym f.closed_is) (subst (λ r. IfOk r (λ (p : Played). HasMark mark p.closed)) f.is h)

@@ -28,6 +28,7 @@ pub(crate) fn follow(
         (λ next. AreNext scenario.now.scripts scenario.now.schedule next.items) }
     ensures worn { (clock : ℕ) → IsErrOf result (PlaceFault.Worn clock) →
         IsWornAt scenario.now clock (net sites.new) }
+    ensures mark { sites.new.mark ≡ sites.old.mark }
 {
     let mut next: Vec<usize> = vec![in alloc; 0; scenario.scripts().len()]?;
     for index in 0..scenario.schedule().len() {
@@ -59,6 +60,7 @@ fn take_step(
         (AreNext scenario.now.scripts (take (index + 1) scenario.now.schedule) next.new.items) }
     ensures worn { (clock : ℕ) → IsErrOf result (PlaceFault.Worn clock) →
         IsWornAt scenario.now clock (net sites.new) }
+    ensures mark { sites.new.mark ≡ sites.old.mark }
 {
     match scenario.schedule()[index] {
         Step::Step(seat) => {
@@ -91,6 +93,7 @@ pub(crate) fn finish(
     ensures ok { OnOk result (IsBefore scenario.now (Drain 0 ∷ []) (net sites.new)) }
     ensures worn { (clock : ℕ) → IsErrOf result (PlaceFault.Worn clock) →
         IsWornAt scenario.now clock (net sites.new) }
+    ensures mark { sites.new.mark ≡ sites.old.mark }
 {
     for index in 0..scenario.scripts().len() {
         finish_script(sites, scenario, index, next[index])?;
@@ -119,6 +122,7 @@ fn finish_script(
         (net sites.new)) }
     ensures worn { (clock : ℕ) → IsErrOf result (PlaceFault.Worn clock) →
         IsWornAt scenario.now clock (net sites.new) }
+    ensures mark { sites.new.mark ≡ sites.old.mark }
 {
     let seat = index as u32 + 1;
     for command in &scenario.scripts()[index].commands()[first..] {

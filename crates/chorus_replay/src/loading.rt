@@ -1,8 +1,9 @@
 //! A load on one thread.
 
-ghost use Rattle.std.specs.Prelude.{◌≡◌, ℕ, ◌≤◌, [], ◌∷◌, IfOk, OnOk, IsErrOf};
+ghost use Rattle.std.specs.Prelude.{◌≡◌, ℕ, ◌≤◌, [], ◌∷◌, IfOk, IfSome, OnOk, IsErrOf};
 ghost use Rattle.law_network.specs.Calls.{just_started};
 ghost use Rattle.law_network.specs.Tasks.{Drain};
+ghost use Rattle.chorus_net.specs.Closing.{HasMark};
 ghost use Rattle.chorus_net.specs.Sites.{net};
 ghost use Rattle.chorus_replay.specs.Ends.{EndsAsLoad};
 ghost use Rattle.chorus_replay.specs.declared.loading.TheConstants.{LOAD_LIMIT};
@@ -38,7 +39,8 @@ pub fn load<K: Sink>(
     requires just_started { AreJustStarted (net sites) }
     requires layout { (net sites).layout ≡ load_layout }
     requires commands { commands ≤ LOAD_LIMIT }
-    ensures { EndsAsLoad first commands result K.held K.faults sink.old sink.new }
+    ensures ends { EndsAsLoad first commands result K.held K.faults sink.old sink.new }
+    ensures mark { IfSome result.closed (HasMark sites.mark) }
 {
     let played = play(alloc, sites, first, commands);
     finish(alloc, sink, played, Text::Summary)
@@ -48,8 +50,9 @@ pub fn load<K: Sink>(
 fn play(alloc: Global, mut sites: Sites, first: u64, commands: u32) -> Result<Played, AllocError>
     requires start { net sites ≡ just_started load_layout }
     requires commands { commands ≤ LOAD_LIMIT }
-    ensures { IfOk result (λ played.
+    ensures played { IfOk result (λ played.
         ArePlayed load_layout (load_order first commands) played.worn played.closed) }
+    ensures mark { IfOk result (λ played. HasMark sites.mark played.closed) }
 {
     let worn = perform(alloc, &mut sites, first, commands)?;
     close(alloc, sites, worn)
@@ -65,8 +68,9 @@ fn perform(
 ) -> Result<Option<u64>, AllocError>
     requires start { net sites.old ≡ just_started load_layout }
     requires commands { commands ≤ LOAD_LIMIT }
-    ensures { IfOk result (λ worn.
+    ensures ok { IfOk result (λ worn.
         ArePerformed load_layout (load_order first commands) worn (net sites.new)) }
+    ensures mark { sites.new.mark ≡ sites.old.mark }
 {
     match perform_tasks(alloc, sites, first, commands) {
         Ok(()) => Ok(None),
@@ -87,6 +91,7 @@ fn perform_tasks(
     ensures ok { OnOk result (AreLeft load_layout (load_order first commands) [] (net sites.new)) }
     ensures worn { (clock : ℕ) → IsErrOf result (PlaceFault.Worn clock) →
         AreStopped load_layout (load_order first commands) clock (net sites.new) }
+    ensures mark { sites.new.mark ≡ sites.old.mark }
 {
     set_up(sites, first, commands)?;
     enter(sites, first, commands)?;
@@ -104,6 +109,7 @@ fn set_up(sites: &mut Sites, first: u64, commands: u32) -> Result<(), PlaceFault
     ensures now { OnOk result (net sites.new ≡ after_setup load_layout load_setup) }
     ensures worn { (clock : ℕ) → IsErrOf result (PlaceFault.Worn clock) →
         AreStopped load_layout (load_order first commands) clock (net sites.new) }
+    ensures mark { sites.new.mark ≡ sites.old.mark }
 {
     for index in 0..SETUP_COMMANDS {
         sites.act(0, setup_command(index))?;
@@ -117,8 +123,9 @@ fn enter(sites: &mut Sites, first: u64, commands: u32) -> Result<(), AllocError>
         (to_enter first commands) (net sites.old) }
     requires now { net sites.old ≡ after_setup load_layout load_setup }
     requires commands { commands ≤ LOAD_LIMIT }
-    ensures { OnOk result (AreLeft load_layout (load_order first commands)
+    ensures ok { OnOk result (AreLeft load_layout (load_order first commands)
         (to_draw commands 1 first) (net sites.new)) }
+    ensures mark { sites.new.mark ≡ sites.old.mark }
 {
     for index in 0..LOAD_SITES {
         match sites.enter(load_actor(index + 1)) {
@@ -141,6 +148,7 @@ fn take_turns(alloc: Global, sites: &mut Sites, first: u64, commands: u32) -> Re
         (Drain 0 ∷ []) (net sites.new)) }
     ensures worn { (clock : ℕ) → IsErrOf result (PlaceFault.Worn clock) →
         AreStopped load_layout (load_order first commands) clock (net sites.new) }
+    ensures mark { sites.new.mark ≡ sites.old.mark }
 {
     let mut state = first;
     for index in 0..commands {

@@ -28,7 +28,8 @@ pub(crate) fn perform(
     requires layout { scenario.now.layout ≡ (net sites.old).layout }
     requires keeps { Keeps scenario.now }
     requires shape { IsLayout scenario.now.layout }
-    ensures { IfOk result (λ worn. IsPerformed scenario.now worn (net sites.new)) }
+    ensures ok { IfOk result (λ worn. IsPerformed scenario.now worn (net sites.new)) }
+    ensures mark { sites.new.mark ≡ sites.old.mark }
 {
     match perform_tasks(alloc, sites, scenario) {
         Ok(()) => Ok(None),
@@ -46,6 +47,7 @@ fn perform_tasks(alloc: Global, sites: &mut Sites, scenario: &Scenario) -> Resul
     ensures ok { OnOk result (IsBefore scenario.now [] (net sites.new)) }
     ensures worn { (clock : ℕ) → IsErrOf result (PlaceFault.Worn clock) →
         IsWornAt scenario.now clock (net sites.new) }
+    ensures mark { sites.new.mark ≡ sites.old.mark }
 {
     set_up(sites, scenario)?;
     enter(sites, scenario)?;
@@ -62,6 +64,7 @@ fn drain_last(sites: &mut Sites, scenario: &Scenario) -> Result<(), PlaceFault>
     ensures ok { OnOk result (IsBefore scenario.now [] (net sites.new)) }
     ensures worn { (clock : ℕ) → IsErrOf result (PlaceFault.Worn clock) →
         IsWornAt scenario.now clock (net sites.new) }
+    ensures mark { sites.new.mark ≡ sites.old.mark }
 {
     sites.drain()?;
     Ok(())
@@ -78,6 +81,7 @@ pub fn set_up(sites: &mut Sites, scenario: &Scenario) -> Result<(), PlaceFault>
     ensures now { OnOk result (net sites.new ≡ set_up scenario.now) }
     ensures worn { (clock : ℕ) → IsErrOf result (PlaceFault.Worn clock) →
         IsWornAt scenario.now clock (net sites.new) }
+    ensures mark { sites.new.mark ≡ sites.old.mark }
 {
     for line in scenario.setup() {
         sites.act(0, setup_command(line))?;
@@ -93,7 +97,8 @@ pub fn enter(sites: &mut Sites, scenario: &Scenario) -> Result<(), AllocError>
     requires now { net sites.old ≡ set_up scenario.now }
     requires keeps { Keeps scenario.now }
     requires shape { IsLayout scenario.now.layout }
-    ensures { OnOk result (IsBefore scenario.now (to_follow scenario.now) (net sites.new)) }
+    ensures ok { OnOk result (IsBefore scenario.now (to_follow scenario.now) (net sites.new)) }
+    ensures mark { sites.new.mark ≡ sites.old.mark }
 {
     for script in scenario.scripts() {
         match sites.enter(script.actor()) {

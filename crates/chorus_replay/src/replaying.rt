@@ -1,8 +1,9 @@
 //! A scenario on one thread.
 
-ghost use Rattle.std.specs.Prelude.{◌≡◌, IfOk};
+ghost use Rattle.std.specs.Prelude.{◌≡◌, IfOk, IfSome};
 ghost use Rattle.chorus_ui.specs.Layout.{IsLayout};
 ghost use Rattle.chorus_scene.specs.Limits.{Keeps};
+ghost use Rattle.chorus_net.specs.Closing.{HasMark};
 ghost use Rattle.chorus_net.specs.Sites.{net};
 ghost use Rattle.chorus_replay.specs.Ends.{EndsAsReplay};
 ghost use Rattle.chorus_replay.specs.Ordered.{AreJustStarted};
@@ -27,8 +28,9 @@ pub fn replay<S: Source, K: Sink>(
     sites: Sites,
 ) -> Finished
     requires { AreJustStarted (net sites) }
-    ensures { EndsAsReplay (net sites).layout result S.left S.faults S.reliable
+    ensures ends { EndsAsReplay (net sites).layout result S.left S.faults S.reliable
         source.old source.new K.held K.faults sink.old sink.new }
+    ensures mark { IfSome result.closed (HasMark sites.mark) }
 {
     let scenario = match read_scenario(alloc, source, sites.layout()) {
         Ok(scenario) => scenario,
@@ -44,7 +46,8 @@ fn play(alloc: Global, mut sites: Sites, scenario: &Scenario) -> Result<Played, 
     requires layout { scenario.now.layout ≡ (net sites).layout }
     requires keeps { Keeps scenario.now }
     requires shape { IsLayout scenario.now.layout }
-    ensures { IfOk result (λ played. IsPlayed scenario.now played.worn played.closed) }
+    ensures played { IfOk result (λ played. IsPlayed scenario.now played.worn played.closed) }
+    ensures mark { IfOk result (λ played. HasMark sites.mark played.closed) }
 {
     let worn = perform(alloc, &mut sites, scenario)?;
     close(alloc, sites, worn)

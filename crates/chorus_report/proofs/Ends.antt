@@ -2,15 +2,18 @@
 use Rattle.std.proofs.Common.{◌≡◌, ◌⊎◌, inl, inr, ℕ, List, Option, Some, None, IfSome, IfOk, Result, Ok, Err, refl, sym, ◌∙◌, ap, subst}
 use Rattle.std.specs.declared.alloc.AllocError.{AllocError}
 use Rattle.std.proofs.lemmas.Bool.{false≢true}
+use Rattle.chorus_io.specs.Bytes.{IsReadWhole}
 use Rattle.chorus_io.specs.Count.{Rose}
 use Rattle.chorus_ui.specs.declared.layout.Layout.{Layout}
 use Rattle.chorus_net.specs.declared.closed.Closed.{Closed}
+use Rattle.chorus_scene.specs.declared.limits.TheConstants.{TEXT_LIMIT}
 use Rattle.chorus_show.specs.declared.status.Status.{Status}
 use Rattle.chorus_report.specs.declared.finished.Finished.{Finished}
 use Rattle.chorus_report.specs.declared.played.Played.{Played}
-use Rattle.chorus_report.specs.Reading.{IsGiven, IsRead, ReadsNoFurther}
+use Rattle.chorus_report.specs.Reading.{IsGiven, IsRead, ReadsNoFurther, ReadsWithin}
 use Rattle.chorus_report.specs.Output.{EndsUnread, GivesUp, HandsOut, Writes}
 use Rattle.chorus_report.specs.Ending.{EndsReading, EndsWriting, EndsBy, EndsFor, IsFinished}
+use Rattle.chorus_report.proofs.Read.{within-most}
 
 module _ {S : Type 0} (l : Layout) (left : S → Option (List ℕ)) (faults : S → ℕ) (reliable : S → Type 0) (old new : S) where
   pub ends-fault : (reliable old → faults new ≡ faults old) → Rose (faults old) (faults new) → ReadsNoFurther (left old) (left new) → EndsReading l Status.ReadFault left faults reliable old new
@@ -21,22 +24,25 @@ module _ {S : Type 0} (l : Layout) (left : S → Option (List ℕ)) (faults : S 
     steady = λ h. absurd (h refl);
     no_fault = no_fault;
     read = λ h k. absurd (h refl);
+    memory = λ h. absurd (cc);
     reads_at_most = most;
   }
 
   -- the count stayed
-  module _ (same : faults new ≡ faults old) (most : ReadsNoFurther (left old) (left new)) where
-    pub ends-memory : EndsReading l Status.Memory left faults reliable old new
-    ends-memory = record {
+  module _ (same : faults new ≡ faults old) where
+    pub ends-memory : ReadsWithin (left old) (left new) → EndsReading l Status.Memory left faults reliable old new
+    ends-memory within = record {
       usage = λ h. cc;
       scenario = λ line reason h. absurd (cc);
       read_fault = λ h. absurd (cc);
       steady = λ h. same;
       no_fault = λ h. same;
       read = λ h k. absurd (k refl);
-      reads_at_most = most;
+      memory = λ h. within;
+      reads_at_most = within-most (left old) (left new) within;
     }
 
+  module _ (same : faults new ≡ faults old) (most : ReadsNoFurther (left old) (left new)) where
     pub ends-refused : (s : Status) (a b : ℕ) → s ≡ Status.Scenario a b → IsGiven l (left old) (Err (a, b)) → IsRead (left old) (left new) → EndsReading l s left faults reliable old new
     ends-refused s a b is given read = record {
       usage = λ h. absurd (let both : Status.Scenario a b ≡ Status.Usage = sym is ∙ h in cc);
@@ -49,18 +55,20 @@ module _ {S : Type 0} (l : Layout) (left : S → Option (List ℕ)) (faults : S 
       steady = λ h. same;
       no_fault = λ h. same;
       read = λ h k. read;
+      memory = λ h. absurd (let both : Status.Scenario a b ≡ Status.Memory = sym is ∙ h in cc);
       reads_at_most = most;
     }
 
     -- all was read, and the call ends as one that reads nothing
-    pub ends-read : IsRead (left old) (left new) → (s : Status) → EndsUnread s → EndsReading l s left faults reliable old new
-    ends-read read s ends = record {
+    pub ends-read : (bytes : List ℕ) → IsReadWhole TEXT_LIMIT bytes (left old) (left new) → (s : Status) → EndsUnread s → EndsReading l s left faults reliable old new
+    ends-read bytes whole s ends = record {
       usage = λ h. absurd (subst EndsUnread h ends);
       scenario = λ line reason h. absurd (subst EndsUnread h ends);
       read_fault = λ h. absurd (subst EndsUnread h ends);
       steady = λ h. same;
       no_fault = λ h. same;
-      read = λ h k. read;
+      read = λ h k. record { bytes = bytes; read = inl whole };
+      memory = λ h. (bytes, (whole.0, whole.2));
       reads_at_most = most;
     }
 

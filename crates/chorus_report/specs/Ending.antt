@@ -11,14 +11,14 @@ use Rattle.chorus_show.specs.declared.status.Status.{Status}
 use Rattle.chorus_show.specs.declared.status.Status.TheVariants.{Done, Usage, Scenario, ReadFault, WriteFault, Memory, Worn}
 use Rattle.chorus_report.specs.declared.finished.Finished.{Finished}
 use Rattle.chorus_report.specs.declared.played.Played.{Played}
-use Rattle.chorus_report.specs.Reading.{IsGiven, IsRead, ReadsNoFurther}
+use Rattle.chorus_report.specs.Reading.{IsGiven, IsRead, ReadsNoFurther, ReadsWithin}
 use Rattle.chorus_report.specs.Headline.{HasClock}
 use Rattle.chorus_net.specs.Closing.{merge_of}
 use Rattle.chorus_report.specs.Output.{Writes, HandsOut}
 
 -- What was read of the source, by the status: never Usage; Scenario where the grammar refuses what was read, with that
--- line and reason; ReadFault where the count rose, and with no other status did it rise. But for these two and Memory
--- all was read.
+-- line and reason; ReadFault where the count rose, and with no other status did it rise; Memory where no more than the
+-- limit was read, since what is longer is refused. But for ReadFault and Memory all was read.
 pub record EndsReading {S : Type 0} (l : Layout) (status : Status) (left : S → Option (List ℕ)) (faults : S → ℕ)
     (reliable : S → Type 0) (old new : S) : Type 0 where
   pub usage : status ≢ Usage
@@ -27,6 +27,7 @@ pub record EndsReading {S : Type 0} (l : Layout) (status : Status) (left : S →
   pub steady : status ≢ ReadFault → faults new ≡ faults old
   pub no_fault : reliable old → faults new ≡ faults old
   pub read : status ≢ ReadFault → status ≢ Memory → IsRead (left old) (left new)
+  pub memory : status ≡ Memory → ReadsWithin (left old) (left new)
   pub reads_at_most : ReadsNoFurther (left old) (left new)
 
 -- What was written of what was closed, by the status: WriteFault where the count rose; Worn with a clock of at least

@@ -23,6 +23,10 @@ pub record IsRead (old new : Option (List ℕ)) : Type 0 where
   pub bytes : List ℕ
   pub read : IsReadWhole TEXT_LIMIT bytes old new ⊎ IsTooLong TEXT_LIMIT bytes old new
 
+-- no more than the limit was read of the source
+abbrev pub ReadsWithin : Option (List ℕ) → Option (List ℕ) → Type 0
+ReadsWithin old new = (bytes : List ℕ) × IsReadWithin TEXT_LIMIT bytes old new
+
 -- no more than one byte more than the limit was read of the source, whatever came of it
 abbrev pub ReadsNoFurther : Option (List ℕ) → Option (List ℕ) → Type 0
 ReadsNoFurther old new = (bytes : List ℕ) × IsReadWithin (TEXT_LIMIT + 1) bytes old new

@@ -1,11 +1,12 @@
 //! The scenario that a source gives.
 
 ghost use Rattle.std.specs.Prelude.{◌≡◌, ◌≢◌, ℕ, List, IfOk, IfErr, IfSome, IsErrOf, OnOk, Ok, Err};
+ghost use Rattle.std.specs.declared.alloc.AllocError.{AllocError};
 ghost use Rattle.chorus_io.specs.Bytes.{IsReadWhole, IsTooLong};
 ghost use Rattle.chorus_io.specs.Count.{Rose};
 ghost use Rattle.chorus_scene.specs.Limits.{Keeps};
 ghost use Rattle.chorus_show.specs.declared.status.Status.{Status};
-ghost use Rattle.chorus_report.specs.Reading.{IsGiven, ReadsNoFurther};
+ghost use Rattle.chorus_report.specs.Reading.{IsGiven, ReadsNoFurther, ReadsWithin};
 ghost use Rattle.chorus_report.specs.Output.{GivesUp, EndsUnread};
 ghost use Rattle.chorus_report.specs.Ending.{EndsReading};
 
@@ -52,7 +53,8 @@ fn read_text<S: Source>(alloc: Global, source: &mut S) -> Result<Vec<u8>, ReadAl
     ensures too_long { IsErrOf result ReadAll.TooLong → (bytes : List ℕ)
         × IsTooLong TEXT_LIMIT bytes (S.left source.old) (S.left source.new) }
     ensures most { ReadsNoFurther (S.left source.old) (S.left source.new) }
-
+    ensures memory { (none : AllocError) → IsErrOf result (ReadAll.Memory none) →
+        ReadsWithin (S.left source.old) (S.left source.new) }
     ensures fault { IsErrOf result ReadAll.Fault →
         Rose (S.faults source.old) (S.faults source.new) }
     ensures steady { result ≢ Err ReadAll.Fault →

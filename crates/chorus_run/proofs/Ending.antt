@@ -17,7 +17,7 @@ use Rattle.chorus_nucleus.specs.Passes.{layout_of, known, worn_by}
 use Rattle.chorus_nucleus.specs.Closing.{ClosesFor, IsClosed}
 use Rattle.chorus_perform.specs.declared.stopped.Stopped.{Stopped}
 use Rattle.chorus_perform.specs.declared.stopped.Stopped.TheVariants as stops
-use Rattle.chorus_perform.specs.Rounds.{IsEven}
+use Rattle.chorus_nucleus.specs.Rounds.{IsEven}
 use Rattle.chorus_perform.specs.Scripts.{HasPerformed}
 use Rattle.chorus_report.specs.declared.played.Played.{Played}
 use Rattle.chorus_report.specs.Reading.{IsGiven}

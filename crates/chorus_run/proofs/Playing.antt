@@ -40,7 +40,7 @@ use Rattle.chorus_report.specs.Setup.{setup_commands}
 use Rattle.chorus_scene.specs.Limits.{Keeps, script_keeps, command_keeps, is_actor_of, is_site}
 use Rattle.law_closing.specs.Actors.{AreIn, AreActors}
 use Rattle.chorus_nucleus.specs.Closing.{ClosesAs, ClosesFor}
-use Rattle.chorus_perform.specs.Rounds.{IsEven, turns_seen}
+use Rattle.chorus_nucleus.specs.Rounds.{IsEven, turns_seen}
 use Rattle.chorus_perform.specs.Scripts.{IsPerformedBy, IsOfScript, HasPerformed}
 use Rattle.chorus_report.specs.Headline.{PerformsAll, PerformsFirst, Plays, callers_of, commands_by}
 use Rattle.chorus_report.proofs.Playing.{performs-none, past-is, plays-so}

@@ -21,7 +21,7 @@ use crate::digest::{digest_of, say_number};
 use chorus_io::{
     Failed, MemSink, MemSource, Sink, Source, StdSink, StdSource, read_all, write_all,
 };
-use chorus_program::{ended, process, start_program};
+use chorus_program::{Verdict, ended, process, start_program};
 use chorus_show::Status;
 use std::alloc::Global;
 use std::env;
@@ -35,10 +35,11 @@ const NOT_BEGUN: u8 = 64;
 /// The exit status where it could not be said how a call ended.
 const NOT_SAID: u8 = 65;
 
-/// How the call of a case ended, what it wrote, and whether only a digest of that is printed.
+/// How the call of a case ended, what was found, what it wrote, and whether only a digest of that is printed.
 #[derive(Drop)]
 struct Called {
     status: Status,
+    verdict: Option<Verdict>,
     sink: MemSink,
     is_digest: bool,
 }
@@ -92,23 +93,25 @@ fn call_of<R: Threads + Wait + Sync>(rt: &R, alloc: Global, case: &[u8]) -> Opti
     let input = Vec::from_slice(alloc, &case[end + 1..]).ok()?;
     let mut source = MemSource::new(input, Vec::new(alloc));
     let mut sink = MemSink::new(alloc, 1, Vec::new(alloc));
-    let status = call(rt, alloc, &words, &mut source, &mut sink);
+    let (status, verdict) = call(rt, alloc, &words, &mut source, &mut sink);
     Some(Called {
         status,
+        verdict,
         sink,
         is_digest,
     })
 }
 
-/// Does the words of a case between the source and the sink, and gives the status with which that ended.
+/// Does the words of a case between the source and the sink, and gives how that ended.
 fn call<R: Threads + Wait + Sync, S: Source, K: Sink>(
     rt: &R,
     alloc: Global,
     words: &[&str],
     source: &mut S,
     sink: &mut K,
-) -> Status {
-    start_program(alloc, rt, words, source, sink).status
+) -> (Status, Option<Verdict>) {
+    let end = start_program(alloc, rt, words, source, sink);
+    (end.finished.status, end.verdict)
 }
 
 /// Prints how the call of a case ended, and what its sink holds or the digest of that.
@@ -117,7 +120,7 @@ fn say<K: Sink>(called: &Called, output: &mut K) -> Result<(), Failed> {
     if called.is_digest && called.status == Status::Done {
         return digest_of(held).say(output);
     }
-    let number = ended(called.status, output);
+    let number = ended(called.status, called.verdict, output);
     say_number(b"status ", u64::from(number), output)?;
     say_number(b" with ", held.len() as u64, output)?;
     write_all(output, b" bytes\n")?;

@@ -37,8 +37,8 @@ impl<'a, R: Wait, E: Moves<R>> Job<Site<E>> for Pumps<'a, R> {
 
     ghost ran = { λ j x seat k y out. ServedAt k.serves.took k.serves.before out j.serves.caller
         k.serves.caller (seen E.links E.packet x.desk) (seen E.links E.packet y.desk)
-        × PublishedBehind j.reader k.reader k.published (entries (seen E.links E.packet y.desk)) y.board
-        out };
+        × PublishedBehind j.reader k.reader k.published
+        (entries (seen E.links E.packet y.desk)) y.board out };
 
     ghost notes = { λ j k news. NotesServe k.serves.took k.serves.before j.serves.caller
         k.serves.caller news };

@@ -29,7 +29,7 @@ use Rattle.chorus_report.proofs.Ends.{gave-up-writes, none-closed}
 use Rattle.chorus_perform.specs.declared.stopped.Stopped.{Stopped}
 use Rattle.chorus_perform.specs.declared.stopped.Stopped.TheVariants as stops
 use Rattle.chorus_perform.specs.Going.{Goes}
-use Rattle.chorus_perform.specs.Rounds.{IsEven}
+use Rattle.chorus_nucleus.specs.Rounds.{IsEven}
 use Rattle.chorus_perform.specs.Scripts.{IsKeeper, IsOpening}
 use Rattle.chorus_run.specs.Threads.{HasWornOf, IsClosedBy}
 use Rattle.chorus_turn.specs.Knowing.{limit, IsSamePass}

@@ -3,7 +3,7 @@ ghost use Rattle.std.specs.Prelude.{◌≡◌, ◌≤◌, ◌<◌, IfOk, IfSome,
 ghost use Rattle.chorus_turn.specs.Knowing.{IsSamePass};
 ghost use Rattle.chorus_nucleus.specs.Passes.{caller_of, known, layout_of, IsPassOf};
 ghost use Rattle.chorus_perform.specs.Going.{Goes};
-ghost use Rattle.chorus_perform.specs.Rounds.{IsEven};
+ghost use Rattle.chorus_nucleus.specs.Rounds.{IsEven};
 ghost use Rattle.chorus_run.specs.declared.drawn_crew.draws.TheConstants.{DRAWS_LIMIT};
 ghost use Rattle.chorus_run.specs.declared.drawn_crew.names.TheConstants.{CREW_PORTS};
 ghost use Rattle.chorus_run.specs.DrawnCrew.Filling.{commands_of, crew_commands, makes, make_port, send_command, sends_of};

@@ -8,7 +8,7 @@ use Rattle.chorus_net.proofs.restarting.restart_places.Goals as goal
 
 pub loop-number-init : goal.loop-number-init
 loop-number-init c = record {
-  taken = none-taken c.args.layout c.args.used.items _ c.requires.are c.requires.untouched (ap (λ xs. journals_of xs) c.new.ensures.items) c.new-2.ensures.items c.new-3.ensures.items refl;
+  taken = none-taken c.args.layout c.args.mark c.args.used.items _ c.requires.are c.requires.untouched (ap (λ xs. journals_of xs) c.new.ensures.items) c.new-2.ensures.items c.new-3.ensures.items refl;
   all = c.requires.all;
   least = omega arith;
   most = omega arith;
@@ -42,11 +42,11 @@ loop-number-preserved c =
     let same : c.loop-number.number - 1 ≡ c.from.result - 1 = (let e = c.from.ensures in omega (arith, e)) in
     let at : c.loop-number.number ≡ 1 + (c.from.result - 1) = (let e = c.from.ensures in let k = l.invariant.least in omega (arith, e, k)) in
     let next : suc (c.from.result - 1) ≡ c.loop-number.number + 1 - 1 = (let e = c.from.ensures in let k = l.invariant.least in omega (arith, e, k)) in
-    let done = one-taken c.args.layout (c.from.result - 1) c.args.used.items l.places.items c.index_mut-place.result.now c.restart_place.new.place l.closed c.restart_place.new.closed
-    (subst (λ n. AreTaken c.args.layout n c.args.used.items c.loop-number.places.items c.loop-number.closed) same l.invariant.taken) c.index_mut-place.ensures.value lt
+    let done = one-taken c.args.layout c.args.mark (c.from.result - 1) c.args.used.items l.places.items c.index_mut-place.result.now c.restart_place.new.place l.closed c.restart_place.new.closed
+    (subst (λ n. AreTaken c.args.layout c.args.mark n c.args.used.items c.loop-number.places.items c.loop-number.closed) same l.invariant.taken) c.index_mut-place.ensures.value lt
     c.in_ok-restart_place.ensures.with_place (subst (λ n. HasStarted c.args.layout n c.restart_place.new.place) at c.in_ok-restart_place.ensures.started) in
     record {
-      taken = subst (λ n. AreTaken c.args.layout n c.args.used.items (set c.loop-number.places.items (c.from.result - 1) c.restart_place.new.place) c.restart_place.new.closed) next done;
+      taken = subst (λ n. AreTaken c.args.layout c.args.mark n c.args.used.items (set c.loop-number.places.items (c.from.result - 1) c.restart_place.new.place) c.restart_place.new.closed) next done;
       all = length-set c.loop-number.places.items (c.from.result - 1) c.restart_place.new.place ∙ l.invariant.all;
       least = omega arith;
       most = (let t = c.loop-number-test.true in omega (arith, t));

@@ -17,7 +17,7 @@ loop-index-preserved c =
     let begun = (caller_of c.args.pass.now).last in
     let last = begins-at c.args.nucleus.now c.actor.result c.loop-index.pass c.enter.new.pass c.in-Ok.entered c.in-Ok.ensures.ok ∙ ap (λ (w : Seated). w.last) c.loop-index.invariant.1.caller in (
       c.in-Ok.ensures.keeper.pass,
-      entered-more c.args.nucleus.now c.actor.result c.args.pass.now c.loop-index.pass c.enter.new.pass c.in-Ok.entered c.loop-index.index c.loop-index.invariant.1 c.in-Ok.ensures.ok c.in-Ok.ensures.keeper.caller,
+      entered-more c.args.nucleus.now c.actor.result c.args.pass.now c.loop-index.pass c.enter.new.pass c.in-Ok.entered c.loop-index.index c.loop-index.invariant.1 c.in-Ok.ensures.ok c.in-Ok.ensures.keeper.caller c.in-Ok.ensures.keeper.worn,
       subst (AreEntered c.args.nucleus.now c.args.scenario.now begun) (sym c.in-Ok-push.ensures.items) (entered-also c.args.nucleus.now c.args.scenario.now begun c.loop-index.runners.items _ c.loop-index.index (omega (arith, c.loop-index.runners.ok.0, c.loop-index.invariant.3)) c.loop-index.invariant.2 new last),
       omega (arith, c.in-Ok-push.ensures.len, c.loop-index.invariant.3),
       omega (arith, c.in-Ok-push.ensures.capacity, c.loop-index.invariant.4),

@@ -1,3 +1,4 @@
+use Rattle.chorus_perform.proofs.Halts.{call-unworn, call-halted}
 use Rattle.std.proofs.Common.{◌≡◌, ◌≢◌, ◌∙◌, sym, true, Ok, [], ◌∷◌, arith}
 use Rattle.chorus_perform.proofs.Steps.{on-err, goes-none, goes-later}
 use Rattle.chorus_perform.proofs.commands.perform_command.Goals as goal
@@ -20,4 +21,11 @@ loop-preserved g c =
       c.try_command.ensures.pass,
       goes-none c.args.pass.now c.loop.pass c.try_command.new.pass c.loop.invariant.1 (c.try_command.ensures.not_done not),
       c.give_way-tries.ensures,
+      call-unworn c.args.nucleus.now c.loop.pass c.try_command.new.pass c.args.command.now c.in_ok-try_command.ensures.told.0 c.in_ok-try_command.ensures.told.1.0 c.in_ok-try_command.ensures.told.1.1 ∙ c.loop.invariant.3,
     )
+
+pub returns-then-branch-clause-unworn : goal.returns-then-branch-clause-unworn
+returns-then-branch-clause-unworn g c = call-unworn c.args.nucleus.now c.loop.pass c.try_command.new.pass c.args.command.now c.in_ok-try_command.ensures.told.0 c.in_ok-try_command.ensures.told.1.0 c.in_ok-try_command.ensures.told.1.1 ∙ c.loop.invariant.3
+
+pub returns-in_err-try_command-clause-halted : goal.returns-in_err-try_command-clause-halted
+returns-in_err-try_command-clause-halted g c = on-err c.from_residual.result _ (call-halted c.args.nucleus.now c.loop.pass c.try_command.new.pass c.args.command.now c.in_err-try_command.ensures.told.0 c.in_err-try_command.ensures.told.1.0 c.in_err-try_command.ensures.told.1.1)

@@ -1,3 +1,4 @@
+use Rattle.chorus_perform.proofs.Halts.{unworn-then}
 use Rattle.std.proofs.Common.{◌∙◌, true, false, ap, refl}
 use Rattle.chorus_calls.specs.Callers.{Seated}
 use Rattle.chorus_perform.proofs.Steps.{on-ok, on-err}
@@ -18,3 +19,8 @@ returns-clause-ok g c =
 pub returns-clause-stopped : goal.returns-clause-stopped
 returns-clause-stopped g c =
     on-err c.settle.result _ (less-done c.args.scenario.now false true _ (λ e. refl) (performed-on c.args.scenario.now true c.run_scripts.new.pass c.settle.new.pass (ap (λ (w : Seated). w.actor) c.run_scripts.ensures.caller ∙ c.in_ok-set_up.ensures.ok.actor ∙ c.requires.opening.actor) c.if-not-run_scripts.ensures.performed c.settle.ensures.goes))
+
+pub returns-clause-unworn : goal.returns-clause-unworn
+returns-clause-unworn g c =
+    unworn-then c.args.pass.now c.run_scripts.new.pass c.settle.new.pass c.settle.result
+    (c.if-not-run_scripts.ensures.unworn refl ∙ c.in_ok-set_up.ensures.unworn) c.settle.ensures.unworn

@@ -1,4 +1,5 @@
-use Rattle.std.proofs.Common.{◌≡◌, List, drop, length, ap, arith, sym, subst, Vec}
+use Rattle.std.proofs.lemmas.Bool.{and_parts}
+use Rattle.std.proofs.Common.{◌≡◌, List, drop, length, ap, arith, sym, subst, Vec, ◌∙◌}
 use Rattle.std.specs.Vec.{vec_len}
 use Rattle.std.specs.Global.{Global}
 use Rattle.chorus_perform.specs.declared.runner.Runner.{Runner}
@@ -48,3 +49,7 @@ returns-clause-caller g c =
 
 pub returns-in_default-clause-caller : goal.returns-in_default-clause-caller
 returns-in_default-clause-caller g c = more-itself (caller_of c.args.pass.now)
+
+pub returns-clause-unworn : goal.returns-clause-unworn
+returns-clause-unworn g c e =
+    let both = and_parts c.retire.result c.is_ok-entered.result e in c.retire.ensures.retired.unworn both.0 ∙ c.enter.ensures.entered.worn

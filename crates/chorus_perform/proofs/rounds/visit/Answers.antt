@@ -1,9 +1,11 @@
-use Rattle.std.proofs.Common.{◌+◌, subst}
+use Rattle.chorus_serve.specs.declared.served.Pump.{Pump}
+use Rattle.chorus_perform.specs.Halting.{Halts}
+use Rattle.std.proofs.Common.{◌+◌, subst, Ok, Err, sym}
 use Rattle.std.proofs.lemmas.Bool.{false≢true}
 use Rattle.chorus_serve.specs.declared.served.Pump.TheVariants as pumps
 use Rattle.chorus_nucleus.specs.Calls.{Serves}
 use Rattle.chorus_nucleus.specs.Passes.{caller_of, known, layout_of}
-use Rattle.chorus_perform.proofs.Idling.{count-exact, count-up-to, round-more}
+use Rattle.chorus_nucleus.proofs.Idling.{count-exact, count-up-to, round-more}
 use Rattle.chorus_perform.proofs.Steps.{goes-serve}
 use Rattle.chorus_perform.proofs.rounds.visit.Goals as goal
 
@@ -28,9 +30,29 @@ returns-in-Ok-Idle-clause-goes g c = goes-serve c.args.nucleus.now (c.args.index
 pub returns-in-Err-Busy-clause-goes : goal.returns-in-Err-Busy-clause-goes
 returns-in-Err-Busy-clause-goes g c = goes-serve c.args.nucleus.now (c.args.index + 1) c.args.pass.now c.serve.new.pass c.serve.result c.serve.ensures
 
-pub returns-in-Err : goal.returns-in-Err
-returns-in-Err g c = record {
-  pass = c.serve.ensures.pass;
-  goes = goes-serve c.args.nucleus.now (c.args.index + 1) c.args.pass.now c.serve.new.pass c.serve.result c.serve.ensures;
-  round = λ e. absurd (false≢true e);
-}
+pub returns-in-Err-Memory-clause-goes : goal.returns-in-Err-Memory-clause-goes
+returns-in-Err-Memory-clause-goes g c = goes-serve c.args.nucleus.now (c.args.index + 1) c.args.pass.now c.serve.new.pass c.serve.result c.serve.ensures
+
+pub returns-in-Err-Memory-clause-round : goal.returns-in-Err-Memory-clause-round
+returns-in-Err-Memory-clause-round g c = λ e. absurd (false≢true e)
+
+pub returns-in-Err-Worn-clause-goes : goal.returns-in-Err-Worn-clause-goes
+returns-in-Err-Worn-clause-goes g c = goes-serve c.args.nucleus.now (c.args.index + 1) c.args.pass.now c.serve.new.pass c.serve.result c.serve.ensures
+
+pub returns-in-Err-Worn-clause-round : goal.returns-in-Err-Worn-clause-round
+returns-in-Err-Worn-clause-round g c = λ e. absurd (false≢true e)
+
+pub returns-in-Ok-Served-clause-told : goal.returns-in-Ok-Served-clause-told
+returns-in-Ok-Served-clause-told g c = (Ok _, (c.in-Ok-Served.ensures, λ h. h))
+
+pub returns-in-Ok-Idle-clause-told : goal.returns-in-Ok-Idle-clause-told
+returns-in-Ok-Idle-clause-told g c = (Ok _, (c.in-Ok-Idle.ensures, λ h. h))
+
+pub returns-in-Err-Busy-clause-told : goal.returns-in-Err-Busy-clause-told
+returns-in-Err-Busy-clause-told g c = (Err _, (c.in-Err-Busy.ensures, λ h. subst (λ f. Halts {T = Pump} (Err f)) c.in-Err-Busy.field-0-is h))
+
+pub returns-in-Err-Memory-clause-told : goal.returns-in-Err-Memory-clause-told
+returns-in-Err-Memory-clause-told g c = (Err _, (c.in-Err-Memory.ensures, subst (λ f. Halts {T = Pump} (Err f)) (sym c.in-Err-Memory.field-0-is) tt))
+
+pub returns-in-Err-Worn-clause-told : goal.returns-in-Err-Worn-clause-told
+returns-in-Err-Worn-clause-told g c = (Err _, (c.in-Err-Worn.ensures, subst (λ f. Halts {T = Pump} (Err f)) (sym c.in-Err-Worn.field-0-is) tt))

@@ -18,3 +18,4 @@ returns g c =
     let at = found-at c.scripts.result.now c.args.scenario.now.scripts c.args.index c.index-scripts-index.result c.scripts.ensures c.requires.ready.inside c.index-scripts-index.is in
     has-run c.args.nucleus.now c.args.scenario.now c.args.index c.index-scripts-index.result c.args.runner.now c.perform_commands.new.pass c.commands.result.now c.perform_commands.result c.is_ok-runner.result
     at c.is_ok-runner.ensures.value c.perform_commands.ensures.pass c.commands.ensures c.perform_commands.ensures.ok c.perform_commands.ensures.err
+    c.perform_commands.ensures.unworn c.perform_commands.ensures.halted

@@ -24,4 +24,5 @@ loop-index-preserved g c = (
   c.perform_command.ensures.pass,
   setup-more c.args.scenario.now c.loop-index.index c.index-setup-index.result c.setup.result.now c.setup_command-command.result c.args.pass.now c.loop-index.pass c.perform_command.new.pass c.setup.ensures
       (subst (λ xs. c.loop-index.index < length xs) c.setup-index-end.ensures c.loop-index-test.true) c.index-setup-index.is c.setup_command-command.ensures c.loop-index.invariant.1 c.in_ok-perform_command.ensures.ok,
+  c.in_ok-perform_command.ensures.unworn ∙ c.loop-index.invariant.2,
 )

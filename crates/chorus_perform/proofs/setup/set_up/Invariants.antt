@@ -1,9 +1,9 @@
-use Rattle.std.proofs.Common.{take}
+use Rattle.std.proofs.Common.{◌≡◌, take}
 use Rattle.chorus_report.specs.Setup.{setup_commands}
-use Rattle.chorus_nucleus.specs.Passes.{IsPassOf}
+use Rattle.chorus_nucleus.specs.Passes.{worn_by, IsPassOf}
 use Rattle.chorus_perform.specs.Going.{Goes}
 use Rattle.chorus_perform.proofs.setup.set_up.Given as goal
 
 abbrev pub invariant-loop-index : goal.invariant-loop-index
 invariant-loop-index g l =
-    IsPassOf l.nucleus l.pass × Goes (take l.index (setup_commands l.scenario)) l.fn.pass l.pass
+    IsPassOf l.nucleus l.pass × Goes (take l.index (setup_commands l.scenario)) l.fn.pass l.pass × (worn_by l.pass ≡ worn_by l.fn.pass)

@@ -1,4 +1,4 @@
-use Rattle.std.proofs.Common.{◌+◌, ap, sym, ◌∙◌, slice_get, arith, Err}
+use Rattle.std.proofs.Common.{◌+◌, refl, ap, sym, ◌∙◌, slice_get, arith, Err}
 use Rattle.std.proofs.lemmas.Bool.{false≢true}
 use Rattle.chorus_net.specs.Sites.{net}
 use Rattle.chorus_replay.specs.Load.{load_layout, load_order, load_setup}
@@ -29,7 +29,7 @@ unreachable-requires-in-Err-NoSeat c =
     omega (arith, few, all)
 
 pub loop-index-init : goal.loop-index-init
-loop-index-init c = (c.requires.before, ap (λ n. slice_get n.callers 0) c.requires.now)
+loop-index-init c = (c.requires.before, ap (λ n. slice_get n.callers 0) c.requires.now, refl)
 
 pub loop-index-preserved : goal.loop-index-preserved
 loop-index-preserved c =
@@ -40,4 +40,5 @@ loop-index-preserved c =
     let next = seat-next first commands i actor (net c.loop-index.sites) c.load_actor.ensures c.loop-index-test.true c.loop-index.invariant.1 c.loop-index.invariant.0 in (
       enter-done (load-can first commands c.requires.commands) actor (seats_left first commands (i + 1)) _ _ next c.in-Ok.ensures.ok,
       enter-first (slice_get (after_setup load_layout load_setup).callers 0) actor _ _ (after-some load_layout load_setup) c.loop-index.invariant.1 c.in-Ok.ensures.ok,
+      c.in-Ok.ensures.mark ∙ c.loop-index.invariant.2,
     )

@@ -10,3 +10,4 @@ abbrev pub invariant-loop-index : goal.invariant-loop-index
 invariant-loop-index l =
     AreLeft load_layout (load_order l.first l.commands) (seats_left l.first l.commands l.index) (net l.sites)
     × (slice_get (net l.sites).callers 0 ≡ slice_get (after_setup load_layout load_setup).callers 0)
+    × (l.sites.mark ≡ l.initial.sites.mark)

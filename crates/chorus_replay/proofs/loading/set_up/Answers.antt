@@ -1,4 +1,4 @@
-use Rattle.std.proofs.Common.{◌+◌, refl}
+use Rattle.std.proofs.Common.{◌+◌, ◌∙◌, refl}
 use Rattle.std.proofs.lemmas.Result.{err_from_is_err_and}
 use Rattle.law_network.specs.Network.{Act}
 use Rattle.chorus_net.specs.Sites.{net}
@@ -12,7 +12,7 @@ pub loop-index-init : goal.loop-index-init
 loop-index-init c =
     let first = c.args.first in
     let commands = c.args.commands in
-    (from-start (load-can first commands c.requires.commands) (to_set_up first commands) (net c.args.sites.now) refl c.requires.start, c.requires.start)
+    (from-start (load-can first commands c.requires.commands) (to_set_up first commands) (net c.args.sites.now) refl c.requires.start, c.requires.start, refl)
 
 pub act-requires : goal.act-requires
 act-requires c =
@@ -37,4 +37,5 @@ loop-index-preserved c =
     let next = setup-next first commands c.loop-index.index c.setup_command.result (net c.loop-index.sites) c.setup_command.ensures c.loop-index.invariant.0 in (
       act-done (load-can first commands c.requires.commands) 0 c.setup_command.result _ _ _ next c.in_ok-act.ensures.ok (act-unworn c.act.result c.in_ok-act.field-0 _ c.in_ok-act.was c.act.ensures.worn),
       setup-now c.loop-index.index c.setup_command.result _ _ c.setup_command.ensures c.loop-index.invariant.1 c.in_ok-act.ensures.ok,
+      c.in_ok-act.ensures.mark ∙ c.loop-index.invariant.2,
     )

@@ -10,3 +10,4 @@ abbrev pub invariant-loop-index : goal.invariant-loop-index
 invariant-loop-index l =
     AreLeft load_layout (load_order l.first l.commands) (setup_left l.first l.commands l.index) (net l.sites)
     × (net l.sites ≡ after_setup load_layout (take l.index load_setup))
+    × (l.sites.mark ≡ l.initial.sites.mark)

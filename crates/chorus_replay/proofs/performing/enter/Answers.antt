@@ -32,4 +32,5 @@ loop-script-preserved c =
     let next = enter-next scene _ _ _ _ _ c.scripts-script-items.ensures read c.actor.ensures c.loop-script.invariant.1 c.loop-script.invariant.0 in (
       enter-done (can scene c.requires.shape c.requires.keeps) c.actor.result (enter_from scene (c.loop-script.script-index + 1)) _ _ next c.in-Ok.ensures.ok,
       enter-first (slice_get (set_up scene).callers 0) c.actor.result _ _ (after-some scene.layout (setup_commands scene)) c.loop-script.invariant.1 c.in-Ok.ensures.ok,
+      c.in-Ok.ensures.mark ∙ c.loop-script.invariant.2,
     )

@@ -9,3 +9,4 @@ abbrev pub invariant-loop-script : goal.invariant-loop-script
 invariant-loop-script l =
     IsBefore l.scenario (enter_from l.scenario l.script-index) (net l.sites)
     × (slice_get (net l.sites).callers 0 ≡ slice_get (set_up l.scenario).callers 0)
+    × (l.sites.mark ≡ l.initial.sites.mark)

@@ -1,4 +1,4 @@
-use Rattle.std.proofs.Common.{refl, ◌+◌}
+use Rattle.std.proofs.Common.{refl, ◌∙◌, ◌+◌}
 use Rattle.std.proofs.lemmas.Option.{slice_get_read}
 use Rattle.std.proofs.lemmas.Result.{err_from_is_err_and}
 use Rattle.law_network.specs.Network.{Act}
@@ -11,7 +11,7 @@ use Rattle.chorus_replay.proofs.performing.set_up.Goals as goal
 pub loop-line-init : goal.loop-line-init
 loop-line-init c =
     let scene = c.args.scenario.now in
-    (from-start (can scene c.requires.shape c.requires.keeps) (to_set_up scene) (net c.args.sites.now) (order-is scene) c.requires.start, c.requires.start)
+    (from-start (can scene c.requires.shape c.requires.keeps) (to_set_up scene) (net c.args.sites.now) (order-is scene) c.requires.start, c.requires.start, refl)
 
 pub act-requires : goal.act-requires
 act-requires c =
@@ -36,4 +36,5 @@ loop-line-preserved c =
     let next = setup-next scene _ _ _ _ _ c.setup-line-items.ensures read c.setup_command.ensures c.loop-line.invariant.0 in (
       act-done (can scene c.requires.shape c.requires.keeps) 0 c.setup_command.result _ _ _ next c.in_ok-act.ensures.ok (act-unworn c.act.result c.in_ok-act.field-0 _ c.in_ok-act.was c.act.ensures.worn),
       setup-now scene _ _ _ _ _ _ c.setup-line-items.ensures read c.setup_command.ensures c.loop-line.invariant.1 c.in_ok-act.ensures.ok,
+      c.in_ok-act.ensures.mark ∙ c.loop-line.invariant.2,
     )

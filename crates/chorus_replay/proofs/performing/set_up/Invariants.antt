@@ -11,3 +11,4 @@ abbrev pub invariant-loop-line : goal.invariant-loop-line
 invariant-loop-line l =
     IsBefore l.scenario (setup_from l.scenario l.line-index) (net l.sites)
     × (net l.sites ≡ schedule l.scenario.layout (reverse (starting ∷ map (Act 0) (map setup_command (take l.line-index l.scenario.setup)))))
+    × (l.sites.mark ≡ l.initial.sites.mark)

@@ -1,4 +1,4 @@
-use Rattle.std.proofs.Common.{inl, inr, sym, ◌∙◌, ap, subst}
+use Rattle.std.proofs.Common.{Err, inl, inr, sym, ◌∙◌, ap, subst}
 use Rattle.chorus_scene.specs.Grammar.{read_scene, Refuses}
 use Rattle.chorus_scene.proofs.Kept.{kept}
 use Rattle.chorus_scene.proofs.Law.{printed_again}
@@ -12,7 +12,7 @@ returns-in-Err-Fault-clause-ends g c =
 
 pub returns-in-Err-Memory-clause-ends : goal.returns-in-Err-Memory-clause-ends
 returns-in-Err-Memory-clause-ends g c =
-    let e = c.in-Err-Memory.ensures in ends-memory _ _ _ _ _ _ (e.steady (λ h. cc)) e.most
+    let e = c.in-Err-Memory.ensures in ends-memory _ _ _ _ _ _ (e.steady (λ h. cc)) (e.memory _ (ap Err c.in-Err-Memory.field-0-is))
 
 pub returns-in-Err-TooLong-clause-ends : goal.returns-in-Err-TooLong-clause-ends
 returns-in-Err-TooLong-clause-ends g c =
@@ -34,7 +34,7 @@ returns-in-Err-Scene-clause-ends g c =
 pub returns-clause-reads : goal.returns-clause-reads
 returns-clause-reads g c =
     let e = c.in-Ok.ensures in
-    ends-read _ _ _ _ _ _ (e.steady (λ h. cc)) e.most (record { bytes = c.in-Ok.text.items; read = inl e.read })
+    ends-read _ _ _ _ _ _ (e.steady (λ h. cc)) e.most c.in-Ok.text.items e.read
 
 pub returns-clause-ok : goal.returns-clause-ok
 returns-clause-ok g c =

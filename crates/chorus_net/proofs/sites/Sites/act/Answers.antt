@@ -21,7 +21,7 @@ use Rattle.chorus_net.proofs.sites.Sites.act.Goals as goal
 
 pub place_for-number-requires-clause-site : goal.place_for-number-requires-clause-site
 place_for-number-requires-clause-site c =
-    let s : SitesState = record { layout = c.self.inside.layout; places = c.self.inside.places.items; callers = c.self.inside.callers.items } in
+    let s : SitesState = record { layout = c.self.inside.layout; mark = c.self.inside.mark; places = c.self.inside.places.items; callers = c.self.inside.callers.items } in
     let may : may_happen (Act c.args.seat c.args.command) (net s) ≡ true = subst (λ (v : SitesState). may_happen (Act c.args.seat c.args.command) (net v) ≡ true) (sym c.self.view_is) c.requires in
     let given = seat-given c.self.inside.callers.items c.args.seat c.args.command may in
     let found : slice_get c.self.inside.callers.items c.args.seat ≡ Some c.index_mut-caller.result.now = slice_get_read c.self.inside.callers.items _ c.args.seat c.index_mut-caller.result.now refl given c.index_mut-caller.ensures.value in
@@ -33,7 +33,7 @@ place_for-number-requires-clause-site c =
 
 pub act-requires-clause-may : goal.act-requires-clause-may
 act-requires-clause-may c =
-    let s : SitesState = record { layout = c.self.inside.layout; places = c.self.inside.places.items; callers = c.self.inside.callers.items } in
+    let s : SitesState = record { layout = c.self.inside.layout; mark = c.self.inside.mark; places = c.self.inside.places.items; callers = c.self.inside.callers.items } in
     let i = c.from.result - 1 in
     let x = c.index_mut-caller.result.now in
     let p = c.index_mut-place.result.now in
@@ -46,7 +46,7 @@ act-requires-clause-may c =
 
 pub act-requires-clause-posts : goal.act-requires-clause-posts
 act-requires-clause-posts c =
-    let s : SitesState = record { layout = c.self.inside.layout; places = c.self.inside.places.items; callers = c.self.inside.callers.items } in
+    let s : SitesState = record { layout = c.self.inside.layout; mark = c.self.inside.mark; places = c.self.inside.places.items; callers = c.self.inside.callers.items } in
     let i = c.from.result - 1 in
     let x = c.index_mut-caller.result.now in
     let p = c.index_mut-place.result.now in
@@ -59,7 +59,7 @@ act-requires-clause-posts c =
 
 pub invariant_of-self : goal.invariant_of-self
 invariant_of-self c =
-    let s : SitesState = record { layout = c.self.inside.layout; places = c.self.inside.places.items; callers = c.self.inside.callers.items } in
+    let s : SitesState = record { layout = c.self.inside.layout; mark = c.self.inside.mark; places = c.self.inside.places.items; callers = c.self.inside.callers.items } in
     let i = c.from.result - 1 in
     let x = c.index_mut-caller.result.now in
     let p = c.index_mut-place.result.now in
@@ -75,7 +75,7 @@ invariant_of-self c =
 
 pub returns-clause-ok : goal.returns-clause-ok
 returns-clause-ok c =
-    let s : SitesState = record { layout = c.self.inside.layout; places = c.self.inside.places.items; callers = c.self.inside.callers.items } in
+    let s : SitesState = record { layout = c.self.inside.layout; mark = c.self.inside.mark; places = c.self.inside.places.items; callers = c.self.inside.callers.items } in
     let i = c.from.result - 1 in
     let x = c.index_mut-caller.result.now in
     let p = c.index_mut-place.result.now in
@@ -90,7 +90,7 @@ returns-clause-ok c =
 
 pub returns-clause-reply : goal.returns-clause-reply
 returns-clause-reply c =
-    let s : SitesState = record { layout = c.self.inside.layout; places = c.self.inside.places.items; callers = c.self.inside.callers.items } in
+    let s : SitesState = record { layout = c.self.inside.layout; mark = c.self.inside.mark; places = c.self.inside.places.items; callers = c.self.inside.callers.items } in
     let i = c.from.result - 1 in
     let x = c.index_mut-caller.result.now in
     let p = c.index_mut-place.result.now in
@@ -105,7 +105,7 @@ returns-clause-reply c =
 
 pub returns-clause-worn : goal.returns-clause-worn
 returns-clause-worn c clock =
-    let s : SitesState = record { layout = c.self.inside.layout; places = c.self.inside.places.items; callers = c.self.inside.callers.items } in
+    let s : SitesState = record { layout = c.self.inside.layout; mark = c.self.inside.mark; places = c.self.inside.places.items; callers = c.self.inside.callers.items } in
     let i = c.from.result - 1 in
     let x = c.index_mut-caller.result.now in
     let p = c.index_mut-place.result.now in
@@ -122,7 +122,7 @@ returns-clause-worn c clock =
 
 pub returns-clause-refused : goal.returns-clause-refused
 returns-clause-refused c =
-    let s : SitesState = record { layout = c.self.inside.layout; places = c.self.inside.places.items; callers = c.self.inside.callers.items } in
+    let s : SitesState = record { layout = c.self.inside.layout; mark = c.self.inside.mark; places = c.self.inside.places.items; callers = c.self.inside.callers.items } in
     let i = c.from.result - 1 in
     let x = c.index_mut-caller.result.now in
     let p = c.index_mut-place.result.now in
@@ -141,7 +141,7 @@ returns-clause-refused c =
 
 pub returns-clause-room : goal.returns-clause-room
 returns-clause-room c =
-    let s : SitesState = record { layout = c.self.inside.layout; places = c.self.inside.places.items; callers = c.self.inside.callers.items } in
+    let s : SitesState = record { layout = c.self.inside.layout; mark = c.self.inside.mark; places = c.self.inside.places.items; callers = c.self.inside.callers.items } in
     let i = c.from.result - 1 in
     let x = c.index_mut-caller.result.now in
     let p = c.index_mut-place.result.now in
@@ -156,7 +156,7 @@ returns-clause-room c =
 
 pub returns-clause-takes_no_memory : goal.returns-clause-takes_no_memory
 returns-clause-takes_no_memory c = λ takes below.
-    let s : SitesState = record { layout = c.self.inside.layout; places = c.self.inside.places.items; callers = c.self.inside.callers.items } in
+    let s : SitesState = record { layout = c.self.inside.layout; mark = c.self.inside.mark; places = c.self.inside.places.items; callers = c.self.inside.callers.items } in
     let i = c.from.result - 1 in
     let x = c.index_mut-caller.result.now in
     let p = c.index_mut-place.result.now in
@@ -180,7 +180,7 @@ returns-clause-takes_no_memory c = λ takes below.
 
 pub act-requires-clause-given : goal.act-requires-clause-given
 act-requires-clause-given c = λ call.
-    let s : SitesState = record { layout = c.self.inside.layout; places = c.self.inside.places.items; callers = c.self.inside.callers.items } in
+    let s : SitesState = record { layout = c.self.inside.layout; mark = c.self.inside.mark; places = c.self.inside.places.items; callers = c.self.inside.callers.items } in
     let i = c.from.result - 1 in
     let x = c.index_mut-caller.result.now in
     let p = c.index_mut-place.result.now in

@@ -14,5 +14,5 @@ returns-clause-ok c =
         rest = a.rest ∙ sym (packets-are c.self.inside.places.items) ∙ ap (λ (v : SitesState). packets_left (net v)) c.self.view_is;
         ports = a.ports ∙ sym (ports-are c.self.inside.places.items) ∙ ap (λ (v : SitesState). placed (net v)) c.self.view_is;
       };
-      origin = a.origin;
+      origin = (c.self.inside.mark, a.origin);
     }

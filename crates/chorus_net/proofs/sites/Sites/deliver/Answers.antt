@@ -21,7 +21,7 @@ use Rattle.chorus_net.proofs.sites.Sites.deliver.Goals as goal
 
 pub invariant_of-self : goal.invariant_of-self
 invariant_of-self c =
-    let s : SitesState = record { layout = c.self.inside.layout; places = c.self.inside.places.items; callers = c.self.inside.callers.items } in
+    let s : SitesState = record { layout = c.self.inside.layout; mark = c.self.inside.mark; places = c.self.inside.places.items; callers = c.self.inside.callers.items } in
     let h = c.self.invariant in
     let l = c.self.inside.layout in
     let a = c.args.from in
@@ -40,7 +40,7 @@ invariant_of-self c =
 
 pub returns-in_default-clause-ok : goal.returns-in_default-clause-ok
 returns-in_default-clause-ok c =
-    let s : SitesState = record { layout = c.self.inside.layout; places = c.self.inside.places.items; callers = c.self.inside.callers.items } in
+    let s : SitesState = record { layout = c.self.inside.layout; mark = c.self.inside.mark; places = c.self.inside.places.items; callers = c.self.inside.callers.items } in
     let h = c.self.invariant in
     let l = c.self.inside.layout in
     let a = c.args.from in
@@ -59,7 +59,7 @@ returns-in_default-clause-ok c =
 
 pub returns-in_default-clause-answer : goal.returns-in_default-clause-answer
 returns-in_default-clause-answer c =
-    let s : SitesState = record { layout = c.self.inside.layout; places = c.self.inside.places.items; callers = c.self.inside.callers.items } in
+    let s : SitesState = record { layout = c.self.inside.layout; mark = c.self.inside.mark; places = c.self.inside.places.items; callers = c.self.inside.callers.items } in
     let h = c.self.invariant in
     let l = c.self.inside.layout in
     let a = c.args.from in
@@ -78,7 +78,7 @@ returns-in_default-clause-answer c =
 
 pub returns-in_default-clause-worn : goal.returns-in_default-clause-worn
 returns-in_default-clause-worn c clock =
-    let s : SitesState = record { layout = c.self.inside.layout; places = c.self.inside.places.items; callers = c.self.inside.callers.items } in
+    let s : SitesState = record { layout = c.self.inside.layout; mark = c.self.inside.mark; places = c.self.inside.places.items; callers = c.self.inside.callers.items } in
     let h = c.self.invariant in
     let l = c.self.inside.layout in
     let a = c.args.from in
@@ -97,7 +97,7 @@ returns-in_default-clause-worn c clock =
 
 pub work-requires : goal.work-requires
 work-requires c =
-    let s : SitesState = record { layout = c.self.inside.layout; places = c.self.inside.places.items; callers = c.self.inside.callers.items } in
+    let s : SitesState = record { layout = c.self.inside.layout; mark = c.self.inside.mark; places = c.self.inside.places.items; callers = c.self.inside.callers.items } in
     let h = c.self.invariant in
     let l = c.self.inside.layout in
     let a = c.args.from in
@@ -119,7 +119,7 @@ work-requires c =
 
 pub invariant_of-self-in-Ok : goal.invariant_of-self-in-Ok
 invariant_of-self-in-Ok c =
-    let s : SitesState = record { layout = c.self.inside.layout; places = c.self.inside.places.items; callers = c.self.inside.callers.items } in
+    let s : SitesState = record { layout = c.self.inside.layout; mark = c.self.inside.mark; places = c.self.inside.places.items; callers = c.self.inside.callers.items } in
     let h = c.self.invariant in
     let l = c.self.inside.layout in
     let a = c.args.from in
@@ -141,7 +141,7 @@ invariant_of-self-in-Ok c =
 
 pub returns-in-Ok-clause-ok : goal.returns-in-Ok-clause-ok
 returns-in-Ok-clause-ok c =
-    let s : SitesState = record { layout = c.self.inside.layout; places = c.self.inside.places.items; callers = c.self.inside.callers.items } in
+    let s : SitesState = record { layout = c.self.inside.layout; mark = c.self.inside.mark; places = c.self.inside.places.items; callers = c.self.inside.callers.items } in
     let h = c.self.invariant in
     let l = c.self.inside.layout in
     let a = c.args.from in
@@ -163,7 +163,7 @@ returns-in-Ok-clause-ok c =
 
 pub returns-in-Ok-clause-answer : goal.returns-in-Ok-clause-answer
 returns-in-Ok-clause-answer c =
-    let s : SitesState = record { layout = c.self.inside.layout; places = c.self.inside.places.items; callers = c.self.inside.callers.items } in
+    let s : SitesState = record { layout = c.self.inside.layout; mark = c.self.inside.mark; places = c.self.inside.places.items; callers = c.self.inside.callers.items } in
     let h = c.self.invariant in
     let l = c.self.inside.layout in
     let a = c.args.from in
@@ -185,7 +185,7 @@ returns-in-Ok-clause-answer c =
 
 pub returns-in-Ok-clause-worn : goal.returns-in-Ok-clause-worn
 returns-in-Ok-clause-worn c clock =
-    let s : SitesState = record { layout = c.self.inside.layout; places = c.self.inside.places.items; callers = c.self.inside.callers.items } in
+    let s : SitesState = record { layout = c.self.inside.layout; mark = c.self.inside.mark; places = c.self.inside.places.items; callers = c.self.inside.callers.items } in
     let h = c.self.invariant in
     let l = c.self.inside.layout in
     let a = c.args.from in
@@ -207,7 +207,7 @@ returns-in-Ok-clause-worn c clock =
 
 pub returns-in-Err-clause-worn : goal.returns-in-Err-clause-worn
 returns-in-Err-clause-worn c clock =
-    let s : SitesState = record { layout = c.self.inside.layout; places = c.self.inside.places.items; callers = c.self.inside.callers.items } in
+    let s : SitesState = record { layout = c.self.inside.layout; mark = c.self.inside.mark; places = c.self.inside.places.items; callers = c.self.inside.callers.items } in
     let h = c.self.invariant in
     let l = c.self.inside.layout in
     let a = c.args.from in
@@ -241,7 +241,7 @@ put_back-requires-clause-back c =
 
 pub invariant_of-self-in-Err : goal.invariant_of-self-in-Err
 invariant_of-self-in-Err c =
-    let s : SitesState = record { layout = c.self.inside.layout; places = c.self.inside.places.items; callers = c.self.inside.callers.items } in
+    let s : SitesState = record { layout = c.self.inside.layout; mark = c.self.inside.mark; places = c.self.inside.places.items; callers = c.self.inside.callers.items } in
     let h = c.self.invariant in
     let l = c.self.inside.layout in
     let a = c.args.from in
@@ -263,12 +263,12 @@ invariant_of-self-in-Err c =
     let back : c.put_back.new.self.out.lists ≡ with_first c.args.to c.in-Some.packet c.index_mut-in-Err.result.now.out.lists =
     c.put_back.ensures.waits ∙ ap (λ z. with_first c.args.to z c.index_mut-in-Err.result.now.out.lists) same in
     let n : c.from-in-Err.result ≡ c.from.result = c.from-in-Err.ensures ∙ sym c.from.ensures in
-    subst (λ m. IsSites (record { layout = c.self.inside.layout; places = set (set (set c.self.inside.places.items (c.from.result - 1) c.out.new.self) (c.from-2.result - 1) c.work.new.self) (m - 1) c.put_back.new.self; callers = set c.self.inside.callers.items 0 c.work.new.caller })) (sym n)
+    subst (λ m. IsSites (record { layout = c.self.inside.layout; mark = c.self.inside.mark; places = set (set (set c.self.inside.places.items (c.from.result - 1) c.out.new.self) (c.from-2.result - 1) c.work.new.self) (m - 1) c.put_back.new.self; callers = set c.self.inside.callers.items 0 c.work.new.caller })) (sym n)
     (restored-sites s a b i j x p p' h fi.0 fj.0 fi.1 fj.1 c.requires.link.apart c.index_mut.ensures.value found has has' c.out.ensures.state c.out.ensures.waits k r some c.index_mut-2.ensures.value c.work.new.self c.index_mut-in-Err.result.now c.put_back.new.self c.work.new.caller c.in-Err.ensures.refused.0 c.in-Err.ensures.refused.1 c.index_mut-caller.ensures.value (c.index_mut-in-Err.ensures.value ∙ ap (λ m. get_or (set (set c.self.inside.places.items (c.from.result - 1) c.out.new.self) (c.from-2.result - 1) c.work.new.self) (m - 1) c.index_mut-in-Err.result.now) n) c.put_back.ensures.state back)
 
 pub returns-in-Err-clause-refused : goal.returns-in-Err-clause-refused
 returns-in-Err-clause-refused c =
-    let s : SitesState = record { layout = c.self.inside.layout; places = c.self.inside.places.items; callers = c.self.inside.callers.items } in
+    let s : SitesState = record { layout = c.self.inside.layout; mark = c.self.inside.mark; places = c.self.inside.places.items; callers = c.self.inside.callers.items } in
     let h = c.self.invariant in
     let l = c.self.inside.layout in
     let a = c.args.from in
@@ -290,7 +290,7 @@ returns-in-Err-clause-refused c =
     let back : c.put_back.new.self.out.lists ≡ with_first c.args.to c.in-Some.packet c.index_mut-in-Err.result.now.out.lists =
     c.put_back.ensures.waits ∙ ap (λ z. with_first c.args.to z c.index_mut-in-Err.result.now.out.lists) same in
     let n : c.from-in-Err.result ≡ c.from.result = c.from-in-Err.ensures ∙ sym c.from.ensures in
-    let moved = ap (λ m. net (record { layout = c.self.inside.layout; places = set (set (set c.self.inside.places.items (c.from.result - 1) c.out.new.self) (c.from-2.result - 1) c.work.new.self) (m - 1) c.put_back.new.self; callers = set c.self.inside.callers.items 0 c.work.new.caller })) n in
+    let moved = ap (λ m. net (record { layout = c.self.inside.layout; mark = c.self.inside.mark; places = set (set (set c.self.inside.places.items (c.from.result - 1) c.out.new.self) (c.from-2.result - 1) c.work.new.self) (m - 1) c.put_back.new.self; callers = set c.self.inside.callers.items 0 c.work.new.caller })) n in
     let ps = c.self.inside.places.items in
     let one = keep-set c.self.inside.places.items (c.from.result - 1) c.index_mut.result.now c.out.new.self c.index_mut.ensures.value c.out.ensures.spare in
     let two = keep-set (set c.self.inside.places.items (c.from.result - 1) c.out.new.self) (c.from-2.result - 1) c.index_mut-2.result.now c.work.new.self c.index_mut-2.ensures.value c.in-Err.ensures.refused.0.spare in
@@ -305,7 +305,7 @@ returns-in-Err-clause-refused c =
 
 pub returns-in-Ok-clause-ticks : goal.returns-in-Ok-clause-ticks
 returns-in-Ok-clause-ticks c = λ ok.
-    let s : SitesState = record { layout = c.self.inside.layout; places = c.self.inside.places.items; callers = c.self.inside.callers.items } in
+    let s : SitesState = record { layout = c.self.inside.layout; mark = c.self.inside.mark; places = c.self.inside.places.items; callers = c.self.inside.callers.items } in
     let h = c.self.invariant in
     let l = c.self.inside.layout in
     let a = c.args.from in
@@ -339,7 +339,7 @@ returns-in_default-clause-room c =
 
 pub returns-in-Ok-clause-room : goal.returns-in-Ok-clause-room
 returns-in-Ok-clause-room c =
-    let s : SitesState = record { layout = c.self.inside.layout; places = c.self.inside.places.items; callers = c.self.inside.callers.items } in
+    let s : SitesState = record { layout = c.self.inside.layout; mark = c.self.inside.mark; places = c.self.inside.places.items; callers = c.self.inside.callers.items } in
     let h = c.self.invariant in
     let l = c.self.inside.layout in
     let a = c.args.from in

@@ -41,6 +41,7 @@ loop-to-preserved c =
       room = subst (λ k. UsesRoom (puts_forward (from_one 0 c.args.from (numbers k 1)) (net c.args.self.now)) c.args.self.now.places c.serve.new.self.places) e
           (uses-row c.args.from (c.loop-to.to - 1) c.loop-to.to c.loop-to.served c.args.self.now c.loop-to.self c.serve.new.self b i.goes i.room c.in_ok-served.ensures.room);
       layout = c.in_ok-served.ensures.layout ∙ i.layout;
+      mark = c.in_ok-served.ensures.mark ∙ i.mark;
     }
 
 pub returns-clause-ok : goal.returns-clause-ok

@@ -12,6 +12,7 @@ invariant-loop-to l = record {
   goes : Goes (from_one 0 l.from (numbers (l.to - 1) 1)) (net l.initial.self) (net l.self) l.served;
   room : UsesRoom (puts_forward (from_one 0 l.from (numbers (l.to - 1) 1)) (net l.initial.self)) l.initial.self.places l.self.places;
   layout : l.self.layout ≡ l.initial.self.layout;
+  mark : l.self.mark ≡ l.initial.self.mark;
 }
 
 abbrev pub decreases-loop-to : goal.decreases-loop-to

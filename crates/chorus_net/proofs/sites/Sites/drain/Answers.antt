@@ -52,6 +52,7 @@ loop-more-preserved c =
       goes = rounds-on c.args.self.now.layout (net c.args.self.now) (net c.loop-more.self) (net c.round.new.self) c.loop-more.served c.in_ok-more.more i.goes r;
       room = uses-rounds c.args.self.now c.loop-more.self c.round.new.self c.in_ok-more.more i.layout i.room r u;
       layout = c.in_ok-more.ensures.layout ∙ i.layout;
+      mark = c.in_ok-more.ensures.mark ∙ i.mark;
     }
 
 pub returns-in_err-more-clause-worn : goal.returns-in_err-more-clause-worn

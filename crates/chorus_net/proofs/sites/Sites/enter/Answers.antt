@@ -15,7 +15,7 @@ invariant_of-self-2 c =
     let i = c.self.invariant in
     let l = c.self.inside.layout in
     let cs = c.self.inside.callers.items in
-    let s : SitesState = record { layout = c.self.inside.layout; places = c.self.inside.places.items; callers = c.self.inside.callers.items } in
+    let s : SitesState = record { layout = c.self.inside.layout; mark = c.self.inside.mark; places = c.self.inside.places.items; callers = c.self.inside.callers.items } in
     let kept : c.reserve.new.self.items ≡ c.self.inside.callers.items = c.reserve.ensures.items in
     let made : c.seats-made.result ≡ length c.self.inside.callers.items = (let a = c.seats-made.ensures in let b = ap (λ (v : SitesState). length v.callers) c.self.view_is in omega (arith, a, b)) in
     let last : c.last-last.result ≡ last_of (slice_get c.self.inside.callers.items 0) =

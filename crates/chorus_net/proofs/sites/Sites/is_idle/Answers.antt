@@ -11,7 +11,7 @@ use Rattle.chorus_net.proofs.sites.Sites.is_idle.Goals as goal
 
 pub returns-clause-idle : goal.returns-clause-idle
 returns-clause-idle c = λ e to has.
-    let s : SitesState = record { layout = c.self.inside.layout; places = c.self.inside.places.items; callers = c.self.inside.callers.items } in
+    let s : SitesState = record { layout = c.self.inside.layout; mark = c.self.inside.mark; places = c.self.inside.places.items; callers = c.self.inside.callers.items } in
     let h = c.self.invariant in
     let i = c.from.result - 1 in
     let p = c.index.result.now in
@@ -24,7 +24,7 @@ returns-clause-idle c = λ e to has.
 
 pub returns-clause-busy : goal.returns-clause-busy
 returns-clause-busy c = λ e.
-    let s : SitesState = record { layout = c.self.inside.layout; places = c.self.inside.places.items; callers = c.self.inside.callers.items } in
+    let s : SitesState = record { layout = c.self.inside.layout; mark = c.self.inside.mark; places = c.self.inside.places.items; callers = c.self.inside.callers.items } in
     let h = c.self.invariant in
     let i = c.from.result - 1 in
     let p = c.index.result.now in

@@ -11,7 +11,7 @@ loop-index-init c =
     let a = c.len-count.ensures in
     let o = c.self.inside.places.ok in
     let v = ap (λ (z : SitesState). length z.places) c.self.view_is in
-    record { same = refl; layout = refl; all = omega (arith, a, o, v); first = omega (arith, a, o, v); most = omega arith; room = tt; kept = keep-self c.args.self.now.places }
+    record { same = refl; layout = refl; mark = refl; all = omega (arith, a, o, v); first = omega (arith, a, o, v); most = omega arith; room = tt; kept = keep-self c.args.self.now.places }
 
 pub returns-in_err-reserve_at-clause-kept : goal.returns-in_err-reserve_at-clause-kept
 returns-in_err-reserve_at-clause-kept c =
@@ -31,6 +31,7 @@ loop-index-preserved c =
     record {
       same = c.reserve_at.ensures.same ∙ i.same;
       layout = c.reserve_at.ensures.layout ∙ i.layout;
+      mark = c.reserve_at.ensures.mark ∙ i.mark;
       all = ap (λ (ps : List Place). length ps) r.is ∙ length-set c.loop-index.self.places c.loop-index.index q ∙ i.all;
       first = i.first;
       most = omega (arith, t);

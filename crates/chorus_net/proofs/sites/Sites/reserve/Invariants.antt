@@ -7,6 +7,7 @@ abbrev pub invariant-loop-index : goal.invariant-loop-index
 invariant-loop-index l = record {
   same : net l.self ≡ net l.initial.self;
   layout : l.self.layout ≡ l.initial.self.layout;
+  mark : l.self.mark ≡ l.initial.self.mark;
   all : length l.self.places ≡ l.count;
   first : length l.initial.self.places ≡ l.count;
   most : l.index ≤ l.count;

@@ -7,13 +7,13 @@ use Rattle.chorus_net.proofs.sites.Sites.reserve_at.Goals as goal
 
 pub invariant_of-self : goal.invariant_of-self
 invariant_of-self c =
-    let s : SitesState = record { layout = c.self.inside.layout; places = c.self.inside.places.items; callers = c.self.inside.callers.items } in
+    let s : SitesState = record { layout = c.self.inside.layout; mark = c.self.inside.mark; places = c.self.inside.places.items; callers = c.self.inside.callers.items } in
     let lt : c.args.index < length c.self.inside.places.items = (let r = c.requires in let v = ap (λ (z : SitesState). length z.places) c.self.view_is in omega (arith, r, v)) in
     kept-sites s c.args.index c.index_mut.result.now c.reserve.new.self c.self.invariant lt c.index_mut.ensures.value c.reserve.ensures.same
 
 pub returns-clause-same : goal.returns-clause-same
 returns-clause-same c =
-    let s : SitesState = record { layout = c.self.inside.layout; places = c.self.inside.places.items; callers = c.self.inside.callers.items } in
+    let s : SitesState = record { layout = c.self.inside.layout; mark = c.self.inside.mark; places = c.self.inside.places.items; callers = c.self.inside.callers.items } in
     let lt : c.args.index < length c.self.inside.places.items = (let r = c.requires in let v = ap (λ (z : SitesState). length z.places) c.self.view_is in omega (arith, r, v)) in
     kept-net s c.args.index c.index_mut.result.now c.reserve.new.self c.self.invariant lt c.index_mut.ensures.value c.reserve.ensures.same ∙ ap net c.self.view_is
 

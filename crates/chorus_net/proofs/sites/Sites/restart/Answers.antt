@@ -7,7 +7,7 @@ use Rattle.chorus_net.proofs.sites.Sites.restart.Goals as goal
 
 pub restart_places-requires-clause-untouched : goal.restart_places-requires-clause-untouched
 restart_places-requires-clause-untouched c =
-    let s : SitesState = record { layout = c.self.inside.layout; places = c.self.inside.places.items; callers = c.self.inside.callers.items } in
+    let s : SitesState = record { layout = c.self.inside.layout; mark = c.self.inside.mark; places = c.self.inside.places.items; callers = c.self.inside.callers.items } in
     sites-untouched s c.self.invariant
 
 pub returns-clause-closed : goal.returns-clause-closed
@@ -19,5 +19,5 @@ returns-clause-closed c =
         rest = a.rest ∙ sym (packets-are c.self.inside.places.items) ∙ ap (λ (v : SitesState). packets_left (net v)) c.self.view_is;
         ports = a.ports ∙ sym (ports-are c.self.inside.places.items) ∙ ap (λ (v : SitesState). placed (net v)) c.self.view_is;
       };
-      origin = a.origin;
+      origin = (c.self.inside.mark, a.origin);
     }

@@ -43,6 +43,7 @@ loop-from-preserved c =
       room = subst (λ k. UsesRoom (puts_forward (from_each 0 (numbers k 1) (place_numbers c.args.self.now.layout)) (net c.args.self.now)) c.args.self.now.places c.deliver_from.new.self.places) e
           (uses-round (place_numbers c.args.self.now.layout) (c.loop-from.from - 1) c.loop-from.from c.loop-from.served c.args.self.now c.loop-from.self c.deliver_from.new.self b i.goes i.room used);
       layout = c.in_ok-served.ensures.layout ∙ i.layout;
+      mark = c.in_ok-served.ensures.mark ∙ i.mark;
     }
 
 pub returns-clause-ok : goal.returns-clause-ok
@@ -71,7 +72,7 @@ value-of (Err e) = 0
 
 pub returns-clause-dry : goal.returns-clause-dry
 returns-clause-dry c = λ ok.
-    let s : SitesState = record { layout = c.self.inside.layout; places = c.self.inside.places.items; callers = c.self.inside.callers.items } in
+    let s : SitesState = record { layout = c.self.inside.layout; mark = c.self.inside.mark; places = c.self.inside.places.items; callers = c.self.inside.callers.items } in
     let done = returns-clause-ok c in
     dry-round s (net c.loop-from.self) c.loop-from.served c.self.invariant
     (subst (λ (v : SitesState). GoesRound v.layout (net v) (net c.loop-from.self) c.loop-from.served) (sym c.self.view_is) done) (ap (λ r. value-of r) ok)

@@ -12,6 +12,7 @@ invariant-loop-from l = record {
   goes : Goes (from_each 0 (numbers (l.from - 1) 1) (place_numbers l.initial.self.layout)) (net l.initial.self) (net l.self) l.served;
   room : UsesRoom (puts_forward (from_each 0 (numbers (l.from - 1) 1) (place_numbers l.initial.self.layout)) (net l.initial.self)) l.initial.self.places l.self.places;
   layout : l.self.layout ≡ l.initial.self.layout;
+  mark : l.self.mark ≡ l.initial.self.mark;
 }
 
 abbrev pub decreases-loop-from : goal.decreases-loop-from

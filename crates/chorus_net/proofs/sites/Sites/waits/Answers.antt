@@ -11,7 +11,7 @@ use Rattle.chorus_net.proofs.sites.Sites.waits.Goals as goal
 
 pub invariant_of-self-2 : goal.invariant_of-self-2
 invariant_of-self-2 c =
-    let s : SitesState = record { layout = c.self.inside.layout; places = c.self.inside.places.items; callers = c.self.inside.callers.items } in
+    let s : SitesState = record { layout = c.self.inside.layout; mark = c.self.inside.mark; places = c.self.inside.places.items; callers = c.self.inside.callers.items } in
     let h = c.self.invariant in
     let i = c.from.result - 1 in
     let p = c.index_mut-place.result.now in
@@ -25,7 +25,7 @@ invariant_of-self-2 c =
 
 pub returns-clause-value : goal.returns-clause-value
 returns-clause-value c =
-    let s : SitesState = record { layout = c.self.inside.layout; places = c.self.inside.places.items; callers = c.self.inside.callers.items } in
+    let s : SitesState = record { layout = c.self.inside.layout; mark = c.self.inside.mark; places = c.self.inside.places.items; callers = c.self.inside.callers.items } in
     let h = c.self.invariant in
     let i = c.from.result - 1 in
     let p = c.index_mut-place.result.now in
@@ -38,7 +38,7 @@ returns-clause-value c =
 
 pub returns-clause-same : goal.returns-clause-same
 returns-clause-same c =
-    let s : SitesState = record { layout = c.self.inside.layout; places = c.self.inside.places.items; callers = c.self.inside.callers.items } in
+    let s : SitesState = record { layout = c.self.inside.layout; mark = c.self.inside.mark; places = c.self.inside.places.items; callers = c.self.inside.callers.items } in
     let h = c.self.invariant in
     let i = c.from.result - 1 in
     let p = c.index_mut-place.result.now in
@@ -52,7 +52,7 @@ returns-clause-same c =
 
 pub invariant_of-self : goal.invariant_of-self
 invariant_of-self c =
-    let s : SitesState = record { layout = c.self.inside.layout; places = c.self.inside.places.items; callers = c.self.inside.callers.items } in
+    let s : SitesState = record { layout = c.self.inside.layout; mark = c.self.inside.mark; places = c.self.inside.places.items; callers = c.self.inside.callers.items } in
     let h = c.self.invariant in
     let i = c.from.result - 1 in
     let p = c.index_mut-place.result.now in
@@ -65,7 +65,7 @@ invariant_of-self c =
 
 pub returns-in_default-clause-value : goal.returns-in_default-clause-value
 returns-in_default-clause-value c =
-    let s : SitesState = record { layout = c.self.inside.layout; places = c.self.inside.places.items; callers = c.self.inside.callers.items } in
+    let s : SitesState = record { layout = c.self.inside.layout; mark = c.self.inside.mark; places = c.self.inside.places.items; callers = c.self.inside.callers.items } in
     let h = c.self.invariant in
     let i = c.from.result - 1 in
     let p = c.index_mut-place.result.now in
@@ -78,7 +78,7 @@ returns-in_default-clause-value c =
 
 pub returns-in_default-clause-same : goal.returns-in_default-clause-same
 returns-in_default-clause-same c =
-    let s : SitesState = record { layout = c.self.inside.layout; places = c.self.inside.places.items; callers = c.self.inside.callers.items } in
+    let s : SitesState = record { layout = c.self.inside.layout; mark = c.self.inside.mark; places = c.self.inside.places.items; callers = c.self.inside.callers.items } in
     let h = c.self.invariant in
     let i = c.from.result - 1 in
     let p = c.index_mut-place.result.now in

@@ -18,7 +18,7 @@ use Rattle.law_closing.specs.Places.{PlaceNote}
 use Rattle.law_closing.specs.Remarks.{turns_at}
 use Rattle.chorus_nucleus.specs.SiteTurns.Turning.{Looks}
 use Rattle.law_closing.specs.Seen.{HasSeen}
-use Rattle.chorus_perform.specs.Rounds.{put_seen, got_seen, Counts, IsRound, IsEven}
+use Rattle.chorus_nucleus.specs.Rounds.{put_seen, got_seen, Counts, IsRound, IsEven}
 
 succ : (n : ℕ) → n + 1 ≡ suc n
 succ n = omega arith
