@@ -1,6 +1,6 @@
 -- Ports that are asked one after another.
 -- n is a nucleus, l a layout, q a port, a, b and c are the pass at three moments, v, m and u are what a pass knows at three moments.
-use Rattle.std.proofs.Common.{◌≡◌, ℕ, zero, suc, ◌+◌, ◌<◌, length, take, drop, get_or, arith, Option, Some, None, Result, Ok, Err, List, [], ◌∷◌, ◌++◌, refl, sym, ap, subst, ◌∙◌, append_assoc}
+use Rattle.std.proofs.Common.{◌≡◌, ℕ, zero, suc, ◌+◌, ◌<◌, length, take, drop, get_or, arith, Some, None, Result, Ok, Err, List, [], ◌∷◌, ◌++◌, refl, inl, inr, sym, ap, subst, ◌∙◌, append_assoc}
 use Rattle.chorus_ui.specs.declared.ui.Ui.{Ui}
 use Rattle.chorus_ui.specs.declared.layout.Layout.{Layout}
 use Rattle.chorus_entry.specs.declared.act.Act.{Act}
@@ -14,7 +14,10 @@ use Rattle.chorus_nucleus.specs.declared.pass.Pass.{Pass}
 use Rattle.chorus_nucleus.specs.Passes.{layout_of, known, worn_by, IsPassOf}
 use Rattle.chorus_nucleus.specs.Calls.{worn_after}
 use Rattle.chorus_nucleus.specs.declared.taken_message.TakenMessage.{TakenMessage}
-use Rattle.chorus_nucleus.specs.Taking.{Appends, Misses, KeepsPass, IsTake, reply_with}
+use Rattle.chorus_nucleus.specs.declared.taken_message.TakeAnswer.{TakeAnswer}
+use Rattle.chorus_nucleus.specs.declared.taken_message.TakeAnswer.TheVariants as answers
+use Rattle.chorus_nucleus.specs.Answers.{reply_of, reply_with, taken_of}
+use Rattle.chorus_nucleus.specs.Taking.{Appends, Gives, KeepsPass, IsTake}
 use Rattle.chorus_nucleus.proofs.TakeTurns.{worn-ok, worn-err}
 use Rattle.chorus_nucleus.proofs.Trying.{appends-none, appends-then, keeps-none, keeps-then}
 use Rattle.chorus_choose.specs.declared.chooser.Enabled.{Enabled}
@@ -38,8 +41,10 @@ missed-append ps qs v m u a b = record {
   appends = appends-then a.acts b.acts v m u a.appends b.appends;
 }
 
-missed-one : (q : Ui) (v u : Knowledge PlaceNote) → Misses q v u → Missed (q ∷ []) v u
-missed-one q v u m = record { acts = m.act ∷ []; misses = (m.miss, tt); appends = m.appends }
+missed-one : (l : Layout) (q : Ui) (a : TakeAnswer) (v u : Knowledge PlaceNote) → taken_of a ≡ None → Gives l q (reply_of a) v u → Missed (q ∷ []) v u
+missed-one l q (answers.Took t) v u none g = absurd (cc)
+missed-one l q answers.Empty v u none g = record { acts = Act.Empty q ∷ []; misses = (inl refl, tt); appends = g.appends }
+missed-one l q answers.NotHere v u none g = record { acts = Act.NotHere q ∷ []; misses = (inr refl, tt); appends = g.appends }
 
 gives-after : (l : Layout) (earlier ports : List Ui) (q : Ui) (r : Reply) (v m u : Knowledge PlaceNote) → Missed earlier v m → GivesAfter l [] ports q r m u → GivesAfter l earlier ports q r v u
 gives-after l earlier ports q r v m u a b = record {
@@ -69,8 +74,8 @@ looked-append n ps qs a b c f s = record {
   worn = s.worn ∙ f.worn;
 }
 
-looked-one : (n : Nucleus) (q : Ui) (b c : Pass) → IsTake n q (Ok None) b c → Looked n (q ∷ []) b c
-looked-one n q b c t = record { keeps = t.keeps; missed = missed-one q (known b) (known c) t.answer; worn = t.worn ∙ worn-ok {T = Option TakenMessage} (worn_by b) None }
+looked-one : (n : Nucleus) (q : Ui) (a : TakeAnswer) (b c : Pass) → taken_of a ≡ None → IsTake n q (Ok a) b c → Looked n (q ∷ []) b c
+looked-one n q a b c none t = record { keeps = t.keeps; missed = missed-one (layout_of n) q a (known b) (known c) none t.answer; worn = t.worn ∙ worn-ok (worn_by b) a }
 
 pub looked-all : (n : Nucleus) (ports : List Ui) (looked : ℕ) (a b : Pass) → looked ≡ length ports → Looked n ports a b → IsReceive n [] ports (Ok (receives.Empty looked)) a b
 looked-all n ports looked a b count h = record {
@@ -97,13 +102,13 @@ module _ (n : Nucleus) (xs : List Enabled) (i : ℕ) (x : Enabled) (a b c : Pass
   split : ports_of xs ≡ ports_of (take i xs) ++ (x.port ∷ ports_of (drop (i + 1) xs))
   split = subst (λ (y : Enabled). ports_of xs ≡ ports_of (take i xs) ++ (y.port ∷ ports_of (drop (i + 1) xs))) (sym is) (ports-split xs i x h)
 
-  pub in-vain : IsTake n x.port (Ok None) b c → Looked n (ports_of (take (i + 1) xs)) a c
-  in-vain t =
+  pub in-vain : (z : TakeAnswer) → taken_of z ≡ None → IsTake n x.port (Ok z) b c → Looked n (ports_of (take (i + 1) xs)) a c
+  in-vain z none t =
       subst (λ zs. Looked n zs a c) (sym (ports-more xs i x h))
-      (subst (λ (y : Enabled). Looked n (ports_of (take i xs) ++ y.port ∷ []) a c) is (looked-append n (ports_of (take i xs)) (x.port ∷ []) a b c looked (looked-one n x.port b c t)))
+      (subst (λ (y : Enabled). Looked n (ports_of (take i xs) ++ y.port ∷ []) a c) is (looked-append n (ports_of (take i xs)) (x.port ∷ []) a b c looked (looked-one n x.port z b c none t)))
 
-  pub gives : (t : TakenMessage) → IsTake n x.port (Ok (Some t)) b c → IsReceive n [] (ports_of xs) (Ok (receives.Taken x.port t.position t.message t.settled)) a c
-  gives t h = record {
+  took : (t : TakenMessage) → IsTake n x.port (Ok (answers.Took t)) b c → IsReceive n [] (ports_of xs) (Ok (receives.Taken x.port t.position t.message t.settled)) a c
+  took t h = record {
     keeps = keeps-then n a b c looked.keeps h.keeps;
     received = record {
       front = ports_of (take i xs);
@@ -115,8 +120,13 @@ module _ (n : Nucleus) (xs : List Enabled) (i : ℕ) (x : Enabled) (a b c : Pass
       origin = h.answer.origin;
     };
     stopped = tt;
-    worn = h.worn ∙ worn-ok (worn_by b) (Some t) ∙ looked.worn ∙ sym (worn-ok (worn_by a) (receives.Taken x.port t.position t.message t.settled));
+    worn = h.worn ∙ worn-ok (worn_by b) (answers.Took t) ∙ looked.worn ∙ sym (worn-ok (worn_by a) (receives.Taken x.port t.position t.message t.settled));
   }
+
+  pub gives : (z : TakeAnswer) (t : TakenMessage) → taken_of z ≡ Some t → IsTake n x.port (Ok z) b c → IsReceive n [] (ports_of xs) (Ok (receives.Taken x.port t.position t.message t.settled)) a c
+  gives answers.Empty t e h = absurd (cc)
+  gives answers.NotHere t e h = absurd (cc)
+  gives (answers.Took s) t e h = let same : s ≡ t = cc in took t (subst (λ z. IsTake n x.port (Ok (answers.Took z)) b c) same h)
 
   pub stops : (f : CallFault) → IsTake n x.port (Err f) b c → IsReceive n [] (ports_of xs) (Err f) a c
   stops f h = record {
@@ -131,7 +141,7 @@ module _ (n : Nucleus) (xs : List Enabled) (i : ℕ) (x : Enabled) (a b c : Pass
       missed = looked.missed;
       fault = h.fault;
     };
-    worn = h.worn ∙ ap (λ o. worn_after {T = Option TakenMessage} o (Err f)) looked.worn ∙ worn-err (Option TakenMessage) Received (worn_by a) f;
+    worn = h.worn ∙ ap (λ o. worn_after {T = TakeAnswer} o (Err f)) looked.worn ∙ worn-err TakeAnswer Received (worn_by a) f;
   }
 
 -- A receive behind rounds in vain.

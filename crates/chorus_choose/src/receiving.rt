@@ -22,17 +22,17 @@ impl Chooser {
         let mut looked: usize = 0;
         while looked < self.enabled.len() {
             let port = self.enabled[looked].port;
-            match take_once(nucleus, pass, port) {
-                Ok(None) => {}
-                Ok(Some(taken)) => {
-                    return Ok(Received::Taken {
-                        port,
-                        pos: taken.position,
-                        message: taken.message,
-                        settled: taken.settled,
-                    });
-                }
+            let answer = match take_once(nucleus, pass, port) {
+                Ok(answer) => answer,
                 Err(fault) => return Err(fault),
+            };
+            if let Some(taken) = answer.taken() {
+                return Ok(Received::Taken {
+                    port,
+                    pos: taken.position,
+                    message: taken.message,
+                    settled: taken.settled,
+                });
             }
             looked += 1;
         }

@@ -2,10 +2,11 @@
 -- n is the nucleus, l its layout, q the port, a, b and c are the pass at three moments.
 use mathlib.Core.Logic.{dite}
 use native.Mathlib.Decide.{ℕ_discrete}
-use Rattle.std.proofs.Common.{◌≡◌, ◌≢◌, ℕ, ◌+◌, Option, Some, None, Ok, Err, List, [], ◌∷◌, ◌++◌, length, refl, sym, ap, ◌∙◌, subst, append_assoc, append-nil, arith, length-append}
+use Rattle.std.proofs.Common.{◌≡◌, ◌≢◌, ℕ, ◌+◌, Ok, Err, List, [], ◌∷◌, ◌++◌, length, refl, sym, ap, ◌∙◌, subst, append_assoc, append-nil, arith, length-append}
 use Rattle.std.proofs.lemmas.List.Elements.{All-nil, All-push, All-weaker}
 use Rattle.chorus_ui.specs.declared.ui.Ui.{Ui}
 use Rattle.chorus_ui.specs.declared.layout.Layout.{Layout}
+use Rattle.chorus_entry.specs.declared.act.Act.{Act}
 use Rattle.law_replies.specs.Taking.{taken_acts}
 use Rattle.chorus_turn.specs.declared.knowledge.Knowledge.{Knowledge}
 use Rattle.law_closing.specs.Places.{PlaceNote}
@@ -15,10 +16,14 @@ use Rattle.chorus_nucleus.specs.declared.pass.Pass.{Pass}
 use Rattle.chorus_nucleus.specs.Passes.{layout_of, known, caller_of, worn_by, IsPassOf}
 use Rattle.chorus_nucleus.specs.Calls.{worn_after}
 use Rattle.chorus_nucleus.specs.declared.taken_message.TakenMessage.{TakenMessage}
-use Rattle.chorus_nucleus.specs.Taking.{Appends, HasOrigin, SeesMore, KeepsPass, TakesOn, IsTake, reply_with}
+use Rattle.chorus_nucleus.specs.declared.taken_message.TakeAnswer.{TakeAnswer}
+use Rattle.chorus_nucleus.specs.declared.taken_message.TakeAnswer.TheVariants as answers
+use Rattle.chorus_nucleus.specs.Taking.{Appends, HasOrigin, SeesMore, KeepsPass, TakesOn, IsTake}
+use Rattle.chorus_nucleus.specs.Answers.{reply_with}
 use Rattle.chorus_nucleus.proofs.Behind.{more-itself}
 use Rattle.chorus_nucleus.proofs.TakeTurns.{worn-ok, takes-nothing}
 use Rattle.chorus_nucleus.proofs.Trying.{appends-none, appends-then, appends-still, origin-later, keeps-none, keeps-then, takes-then}
+use Rattle.chorus_crew.specs.declared.folding.EndedBy.TheVariants as ends
 use Rattle.chorus_crew.specs.Handling.{Way, after_all, took_acts, AreGiven, first_position, Folds}
 use Rattle.chorus_crew.specs.Jobs.{IsWork}
 
@@ -62,7 +67,7 @@ drained-none way n q a state is begun = record {
 }
 
 module _ {S : Type 0} (way : Way S) (n : Nucleus) (q : Ui) (from count : ℕ) (state : S) (a b c : Pass) (d : Drained way n q from count state a b) where
-  pub drained-more : (t : TakenMessage) (first next : ℕ) (then : S) → IsTake n q (Ok (Some t)) b c → (count ≡ 0 → first ≡ t.position) → (count ≢ 0 → first ≡ from) → next ≡ count + 1
+  pub drained-more : (t : TakenMessage) (first next : ℕ) (then : S) → IsTake n q (Ok (answers.Took t)) b c → (count ≡ 0 → first ≡ t.position) → (count ≢ 0 → first ≡ from) → next ≡ count + 1
       → then ≡ way.after q t state → Drained way n q first next then a c
   drained-more t first next then h zero-first some-first next-is then-is =
       let f = first-more d.took t from count d.folds.first d.folds.number in
@@ -78,37 +83,46 @@ module _ {S : Type 0} (way : Way S) (n : Nucleus) (q : Ui) (from count : ℕ) (s
           number = omega (arith, next-is, d.folds.number, length-append d.took (t ∷ []));
           state_is = then-is ∙ ap (way.after q t) d.folds.state_is ∙ sym (after-append way q d.took t (way.begun q));
         };
-        worn = h.worn ∙ worn-ok (worn_by b) (Some t) ∙ d.worn;
+        worn = h.worn ∙ worn-ok (worn_by b) (answers.Took t) ∙ d.worn;
       }
 
-  pub drains : IsTake n q (Ok None) b c → IsWork way n q record { from = from; count = count; state = state; stopped = None } a c
-  drains h = record {
+  pub empties : IsTake n q (Ok answers.Empty) b c → IsWork way n q record { from = from; count = count; state = state; ended = ends.Empty } a c
+  empties h = record {
     keeps = keeps-then n a b c d.keeps h.keeps;
     goes = takes-then n q a b c d.keeps.actor d.goes h.goes;
     work = record {
       took = d.took;
       given = given-later (layout_of n) q d.took (known b) (known c) h.keeps.sees d.given;
-      rest = h.answer.act ∷ [];
-      ends = (h.answer.act, h.answer.miss, refl);
-      appends = appends-then (took_acts q d.took) (h.answer.act ∷ []) (known a) (known b) (known c) d.appends h.answer.appends;
+      appends = appends-then (took_acts q d.took) (Act.Empty q ∷ []) (known a) (known b) (known c) d.appends h.answer.appends;
       folds = d.folds;
     };
-    worn = h.worn ∙ worn-ok {T = Option TakenMessage} (worn_by b) None ∙ d.worn;
+    worn = h.worn ∙ worn-ok (worn_by b) answers.Empty ∙ d.worn;
   }
 
-  pub stops : (f : CallFault) → IsTake n q (Err f) b c → IsWork way n q record { from = from; count = count; state = state; stopped = Some f } a c
+  pub misses : IsTake n q (Ok answers.NotHere) b c → IsWork way n q record { from = from; count = count; state = state; ended = ends.NotHere } a c
+  misses h = record {
+    keeps = keeps-then n a b c d.keeps h.keeps;
+    goes = takes-then n q a b c d.keeps.actor d.goes h.goes;
+    work = record {
+      took = d.took;
+      given = given-later (layout_of n) q d.took (known b) (known c) h.keeps.sees d.given;
+      appends = appends-then (took_acts q d.took) (Act.NotHere q ∷ []) (known a) (known b) (known c) d.appends h.answer.appends;
+      folds = d.folds;
+    };
+    worn = h.worn ∙ worn-ok (worn_by b) answers.NotHere ∙ d.worn;
+  }
+
+  pub stops : (f : CallFault) → IsTake n q (Err f) b c → IsWork way n q record { from = from; count = count; state = state; ended = ends.Fault f } a c
   stops f h = record {
     keeps = keeps-then n a b c d.keeps h.keeps;
     goes = takes-then n q a b c d.keeps.actor d.goes h.goes;
     work = record {
       took = d.took;
       given = given-later (layout_of n) q d.took (known b) (known c) h.keeps.sees d.given;
-      rest = [];
-      ends = refl;
       appends = subst (λ zs. Appends zs (known a) (known c)) (sym (append-nil (took_acts q d.took))) (appends-still (took_acts q d.took) (known a) (known b) (known c) d.appends h.fault.mine);
       folds = d.folds;
     };
-    worn = h.worn ∙ ap (λ o. worn_after {T = Option TakenMessage} o (Err f)) d.worn;
+    worn = h.worn ∙ ap (λ o. worn_after {T = TakeAnswer} o (Err f)) d.worn;
   }
 
-pub ruleset draining = (drained-none, drains, stops)
+pub ruleset draining = (drained-none, empties, misses, stops)

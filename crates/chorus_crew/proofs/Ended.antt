@@ -21,6 +21,7 @@ use Rattle.chorus_nucleus.proofs.TakeTurns.{sees-same}
 use Rattle.chorus_crew.specs.declared.job.Done.{Done}
 use Rattle.chorus_crew.specs.declared.job.Job.{Job}
 use Rattle.chorus_crew.specs.declared.folding.Folded.{Folded}
+use Rattle.chorus_crew.specs.Endings.{fault_of}
 use Rattle.chorus_crew.specs.Jobs.{IsPlain}
 use Rattle.chorus_crew.specs.Retiring.{TakesIn, IsFullSlot, passes_of, folded_of, folded_with, is_done, worn_of}
 
@@ -86,15 +87,15 @@ folded-append : {S : Type 0} (xs : List (Done S)) (d : Done S) → folded_of (xs
 folded-append [] d = refl
 folded-append (x ∷ xs) d = ap (λ zs. folded_with x.port x.tally ∷ zs) (folded-append xs d)
 
-done-append : {S : Type 0} (xs : List (Done S)) (d : Done S) → is_done (xs ++ d ∷ []) ≡ (cond (is_done xs) (is_none d.tally.stopped) false)
-done-append [] d = by (is_none d.tally.stopped)
+done-append : {S : Type 0} (xs : List (Done S)) (d : Done S) → is_done (xs ++ d ∷ []) ≡ (cond (is_done xs) (is_none (fault_of d.tally.ended)) false)
+done-append [] d = by (is_none (fault_of d.tally.ended))
   where
     by : (b : Bool) → (b && true) ≡ b
     by true = refl
     by false = refl
-done-append (x ∷ xs) d = by (is_none x.tally.stopped) (done-append xs d)
+done-append (x ∷ xs) d = by (is_none (fault_of x.tally.ended)) (done-append xs d)
   where
-    by : (b : Bool) → is_done (xs ++ d ∷ []) ≡ (cond (is_done xs) (is_none d.tally.stopped) false) → (b && is_done (xs ++ d ∷ [])) ≡ (cond (b && is_done xs) (is_none d.tally.stopped) false)
+    by : (b : Bool) → is_done (xs ++ d ∷ []) ≡ (cond (is_done xs) (is_none (fault_of d.tally.ended)) false) → (b && is_done (xs ++ d ∷ [])) ≡ (cond (b && is_done xs) (is_none (fault_of d.tally.ended)) false)
     by true e = e
     by false e = refl
 
@@ -159,7 +160,7 @@ module _ {S : Type 0} (n : Nucleus) (a b c : Pass) (all_slots slots left : List 
   same : next.0 ≡ d
   same = slot-done next.0 d (sym next.3 ∙ is)
 
-  pub collected-more : (folded_now : List (Folded S)) (all_now : Bool) → folded_now ≡ folded ++ folded_with d.port d.tally ∷ [] → all_now ≡ (cond all (is_none d.tally.stopped) false) → Collected n a c all_slots left folded_now all_now
+  pub collected-more : (folded_now : List (Folded S)) (all_now : Bool) → folded_now ≡ folded ++ folded_with d.port d.tally ∷ [] → all_now ≡ (cond all (is_none (fault_of d.tally.ended)) false) → Collected n a c all_slots left folded_now all_now
   collected-more folded_now all_now h e = record {
     front = s.front ++ d ∷ [];
     rest = next.1;
@@ -168,7 +169,7 @@ module _ {S : Type 0} (n : Nucleus) (a b c : Pass) (all_slots slots left : List 
     takes_in = subst (TakesIn n a c) (sym (map-append (λ (x : Done S). x.pass) s.front (d ∷ []))) (takes-in-more n a b c d.pass (passes_of s.front) s.takes_in plain r);
     worn = r.worn ∙ ap (λ o. option_or o (worn_by d.pass)) s.worn ∙ sym (worn-append (worn_by a) s.front d);
     folded_is = h ∙ ap (λ zs. zs ++ folded_with d.port d.tally ∷ []) s.folded_is ∙ sym (folded-append s.front d);
-    all_is = e ∙ ap (λ x. cond x (is_none d.tally.stopped) false) s.all_is ∙ sym (done-append s.front d);
+    all_is = e ∙ ap (λ x. cond x (is_none (fault_of d.tally.ended)) false) s.all_is ∙ sym (done-append s.front d);
   }
 
 pub record AllCollected {S : Type 0} (n : Nucleus) (old new : Pass) (folded : List (Folded S)) (all : Bool) (dones : List (Done S)) : Type 0 where

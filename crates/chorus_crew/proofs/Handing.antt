@@ -1,9 +1,9 @@
 -- What a crew hands on: the passes of the jobs, and what they gave.
 -- n is the nucleus, l its layout, a, b and c are the caller's pass before the call, with all passes drawn, and at the end.
-use Rattle.std.proofs.Common.{◌≡◌, ◌≤◌, ℕ, zero, suc, ◌+◌, Bool, true, Option, Some, None, is_none, Result, Ok, Err, IfOk, IfErr, OnOk, inr, List, [], ◌∷◌, ◌++◌, map, length, reverse, refl, sym, ap, ◌∙◌, subst, arith, append-nil, slice_get}
+use Rattle.std.proofs.Common.{◌≡◌, ◌≤◌, ℕ, zero, suc, ◌+◌, Bool, true, false, ◌&&◌, Option, Some, None, is_none, Result, Ok, Err, IfOk, IfErr, OnOk, OnErr, inr, List, [], ◌∷◌, ◌++◌, map, length, reverse, refl, sym, ap, ◌∙◌, subst, arith, append-nil, slice_get}
 use Rattle.std.specs.List.{All}
 use Rattle.std.specs.Global.{Vec}
-use Rattle.std.proofs.lemmas.Bool.{and_parts}
+use Rattle.std.proofs.lemmas.Bool.{and_parts, false≢true}
 use Rattle.std.proofs.lemmas.List.Elements.{All-nil, All-cons, All-head, All-tail}
 use Rattle.chorus_ui.specs.declared.ui.Ui.{Ui}
 use Rattle.chorus_ui.specs.declared.layout.Layout.{Layout}
@@ -24,19 +24,22 @@ use Rattle.chorus_nucleus.proofs.Behind.{more-itself}
 use Rattle.chorus_nucleus.specs.declared.fault.CallFault.{CallFault}
 use Rattle.chorus_nucleus.specs.declared.nucleus.Nucleus.{Nucleus}
 use Rattle.chorus_nucleus.specs.declared.pass.Pass.{Pass}
-use Rattle.chorus_nucleus.specs.Passes.{layout_of, known, caller_of, IsPassOf}
-use Rattle.chorus_nucleus.specs.Taking.{acts_made, Appends, IsByTakes, IsMiss, SeesMore}
+use Rattle.chorus_nucleus.specs.Passes.{layout_of, known, caller_of, worn_by, IsPassOf}
+use Rattle.chorus_nucleus.specs.Taking.{acts_made, Appends, IsByTakes, SeesMore}
 use Rattle.chorus_nucleus.proofs.Trying.{sees-then}
 use Rattle.chorus_nucleus.proofs.TakeTurns.{sees-same}
 use Rattle.chorus_crew.specs.declared.fault.Unfinished.{Unfinished}
+use Rattle.chorus_crew.specs.declared.folding.EndedBy.{EndedBy}
+use Rattle.chorus_crew.specs.declared.folding.EndedBy.TheVariants as ends
 use Rattle.chorus_crew.specs.declared.folding.Folded.{Folded}
 use Rattle.chorus_crew.specs.declared.job.Done.{Done}
 use Rattle.chorus_crew.specs.declared.job.Job.{Job}
 use Rattle.chorus_crew.specs.declared.job.Tally.{Tally}
-use Rattle.chorus_crew.specs.Handling.{Way, took_acts, EndsBy, Drains}
+use Rattle.chorus_crew.specs.Endings.{last_acts, fault_of}
+use Rattle.chorus_crew.specs.Handling.{Way, took_acts, Drains}
 use Rattle.chorus_crew.specs.Jobs.{IsPlain, IsJobOf, IsDoneOf, AreDoneOf, IsNumbered, IsEntered, AreEntered, BeginAt, HasDrawn}
 use Rattle.chorus_crew.specs.Retiring.{TakesIn, TookAlone, IsRetired, HasTakenNothing, IsFullSlot, passes_of, folded_of, folded_with, is_done}
-use Rattle.chorus_crew.specs.Crews.{IsFolded, AreEach, HasFolded, HasFoldedAll, HasStopped}
+use Rattle.chorus_crew.specs.Crews.{IsFolded, AreEach, HasFolded, HasFoldedAll, HasStopped, HasCause}
 use Rattle.chorus_crew.proofs.Draining.{given-later}
 use Rattle.chorus_crew.proofs.Ended.{all-reverse}
 
@@ -103,19 +106,8 @@ done-count way n (j ∷ jobs) (x ∷ dones) d = ap suc (done-count way n jobs do
 made-acts : (acts : List Act) (v u : Knowledge PlaceNote) → v.mine ≡ [] → Appends acts v u → acts_made u.mine ≡ acts
 made-acts acts v u none a = ap acts_made (a.grown ∙ ap (λ zs. zs ++ a.news) none) ∙ a.acts_are
 
-worked-alone : {S : Type 0} (way : Way S) (l : Layout) (q : Ui) (from count : ℕ) (state : S) (stopped : Option CallFault) (v u : Knowledge PlaceNote) → v.mine ≡ [] → Drains way l q from count state stopped v u → TookAlone u.mine
-worked-alone way l q from count state stopped v u none w = record {
-  port = q;
-  took = w.took;
-  rest = w.rest;
-  vain = (by stopped w.rest w.ends).0;
-  few = (by stopped w.rest w.ends).1;
-  acts = made-acts (took_acts q w.took ++ w.rest) v u none w.appends;
-}
-  where
-    by : (o : Option CallFault) (acts : List Act) → EndsBy q o acts → All (IsMiss q) acts × (length acts ≤ 1)
-    by None acts e = subst (λ zs. All (IsMiss q) zs × (length zs ≤ 1)) (sym e.2) (All-cons (IsMiss q) e.0 [] e.1 (All-nil (IsMiss q)), omega arith)
-    by (Some f) acts e = subst (λ zs. All (IsMiss q) zs × (length zs ≤ 1)) (sym e) (All-nil (IsMiss q), omega arith)
+worked-alone : {S : Type 0} (way : Way S) (l : Layout) (q : Ui) (from count : ℕ) (state : S) (ended : EndedBy) (v u : Knowledge PlaceNote) → v.mine ≡ [] → Drains way l q from count state ended v u → TookAlone u.mine
+worked-alone way l q from count state ended v u none w = record { port = q; took = w.took; ended = ended; acts = made-acts (took_acts q w.took ++ last_acts q ended) v u none w.appends }
 
 pub done-alone : {S : Type 0} (way : Way S) (n : Nucleus) (index seat : ℕ) (pairs : List (Ui × Ui)) (jobs : List Job) (dones : List (Done S)) → AreEntered n index seat pairs jobs → AreDoneOf way n jobs dones
     → All (λ (m : Note PlaceNote). TookAlone m.mine) (notes_of (passes_of dones)) × (length (notes_of (passes_of dones)) ≡ length pairs)
@@ -126,10 +118,10 @@ done-alone way n index seat (p ∷ pairs) [] dones e d = absurd e
 done-alone way n index seat (p ∷ pairs) (j ∷ jobs) [] e d = absurd d
 done-alone way n index seat (p ∷ pairs) (j ∷ jobs) (x ∷ dones) e d =
     let more = done-alone way n (index + 1) (seat + 1) pairs jobs dones e.1 d.1 in
-    (All-cons (λ (m : Note PlaceNote). TookAlone m.mine) (note_of (known x.pass)) (notes_of (passes_of dones)) (worked-alone way (layout_of n) j.port x.tally.from x.tally.count x.tally.state x.tally.stopped (known j.pass) (known x.pass) e.0.nothing d.0.work.work) more.0, ap suc more.1)
+    (All-cons (λ (m : Note PlaceNote). TookAlone m.mine) (note_of (known x.pass)) (notes_of (passes_of dones)) (worked-alone way (layout_of n) j.port x.tally.from x.tally.count x.tally.state x.tally.ended (known j.pass) (known x.pass) e.0.nothing d.0.work.work) more.0, ap suc more.1)
 
 fresh-alone : (n : Nucleus) (index seat : ℕ) (p : Ui × Ui) (j : Job) → IsEntered n index seat p j → TookAlone (known j.pass).mine
-fresh-alone n index seat p j e = record { port = p.0; took = []; rest = []; vain = All-nil (IsMiss p.0); few = omega arith; acts = ap acts_made e.nothing }
+fresh-alone n index seat p j e = record { port = p.0; took = []; ended = ends.Fault (CallFault.Busy 0); acts = ap acts_made e.nothing }
 
 pub fresh-all : (n : Nucleus) (index seat : ℕ) (pairs : List (Ui × Ui)) (jobs : List Job) → AreEntered n index seat pairs jobs → All (λ (j : Job). IsPlain n j.pass × TookAlone (known j.pass).mine) jobs
 fresh-all n index seat [] [] e = All-nil (λ (j : Job). IsPlain n j.pass × TookAlone (known j.pass).mine)
@@ -178,15 +170,13 @@ retired-none n a is keeper = record {
 
 -- What the jobs gave.
 
-folded-one : {S : Type 0} (way : Way S) (l : Layout) (q port : Ui) (t : Tally S) (v u w : Knowledge PlaceNote) → port ≡ q → v.mine ≡ [] → SeesMore u w → Drains way l q t.from t.count t.state t.stopped v u
+folded-one : {S : Type 0} (way : Way S) (l : Layout) (q port : Ui) (t : Tally S) (v u w : Knowledge PlaceNote) → port ≡ q → v.mine ≡ [] → SeesMore u w → Drains way l q t.from t.count t.state t.ended v u
     → IsFolded way l w q u.mine (folded_with port t)
 folded-one way l q port t v u w same none more d = record {
   port = same;
   took = d.took;
   given = given-later l q d.took u w more d.given;
-  rest = d.rest;
-  ends = d.ends;
-  acts = made-acts (took_acts q d.took ++ d.rest) v u none d.appends;
+  acts = made-acts (took_acts q d.took ++ last_acts q t.ended) v u none d.appends;
   folds = d.folds;
 }
 
@@ -224,11 +214,11 @@ is-none : (o : Option CallFault) → is_none o ≡ true → o ≡ None
 is-none None e = refl
 is-none (Some f) e = absurd (cc)
 
-all-whole : {S : Type 0} (dones : List (Done S)) → is_done dones ≡ true → All (λ (f : Folded S). f.stopped ≡ None) (folded_of dones)
-all-whole {S} [] all = All-nil (λ (f : Folded S). f.stopped ≡ None)
+all-whole : {S : Type 0} (dones : List (Done S)) → is_done dones ≡ true → All (λ (f : Folded S). fault_of f.ended ≡ None) (folded_of dones)
+all-whole {S} [] all = All-nil (λ (f : Folded S). fault_of f.ended ≡ None)
 all-whole {S} (x ∷ dones) all =
-    let both = and_parts (is_none x.tally.stopped) (is_done dones) all in
-    All-cons (λ (f : Folded S). f.stopped ≡ None) (folded_with x.port x.tally) (folded_of dones) (is-none x.tally.stopped both.0) (all-whole dones both.1)
+    let both = and_parts (is_none (fault_of x.tally.ended)) (is_done dones) all in
+    All-cons (λ (f : Folded S). fault_of f.ended ≡ None) (folded_with x.port x.tally) (folded_of dones) (is-none (fault_of x.tally.ended) both.0) (all-whole dones both.1)
 
 -- All that was drawn ended in the caller's pass.
 
@@ -252,13 +242,32 @@ pub ok-folded : {S : Type 0} (way : Way S) (n : Nucleus) (pairs : List (Ui × Ui
     → IfOk r (λ v. (v ≡ folded) × (all ≡ true) × (worn ≡ None)) → folded.items ≡ folded_of dones → all ≡ is_done dones → HasFolded way n pairs folded.items a c → IfOk r (λ v. HasFoldedAll way n pairs v.items a c)
 ok-folded {S} way n pairs dones a c folded all worn (Ok v) h is done f =
     subst (λ (w : Vec (Folded S)). HasFoldedAll way n pairs w.items a c) (sym h.0)
-    (f, subst (λ (fs : List (Folded S)). All (λ (x : Folded S). x.stopped ≡ None) fs) (sym is) (all-whole dones (sym done ∙ h.1)))
+    (f, subst (λ (fs : List (Folded S)). All (λ (x : Folded S). fault_of x.ended ≡ None) fs) (sym is) (all-whole dones (sym done ∙ h.1)))
 ok-folded way n pairs dones a c folded all worn (Err e) h is done f = tt
 
-pub err-folded : {S : Type 0} (way : Way S) (n : Nucleus) (pairs : List (Ui × Ui)) (a c : Pass) (folded : Vec (Folded S)) (r : Result (Vec (Folded S)) (Unfinished S)) → IfErr r (λ s. s.folded ≡ folded)
-    → HasFolded way n pairs folded.items a c → IfErr r (λ s. HasStopped way n pairs s.folded.items a c)
-err-folded way n pairs a c folded (Ok v) h f = tt
-err-folded {S} way n pairs a c folded (Err e) h f = inr (subst (λ (w : Vec (Folded S)). HasFolded way n pairs w.items a c) (sym h) f)
+none-is : (o : Option CallFault) → o ≡ None → is_none o ≡ true
+none-is o e = ap is_none e
+
+whole-done : {S : Type 0} (dones : List (Done S)) → All (λ (f : Folded S). fault_of f.ended ≡ None) (folded_of dones) → is_done dones ≡ true
+whole-done [] all = refl
+whole-done {S} (x ∷ dones) all =
+    let P = λ (f : Folded S). fault_of f.ended ≡ None in
+    let first = none-is (fault_of x.tally.ended) (All-head P (folded_with x.port x.tally) (folded_of dones) all) in
+    let rest = whole-done dones (All-tail P (folded_with x.port x.tally) (folded_of dones) all) in
+    (λ i. first i && rest i)
+
+not-whole : (b : Bool) → b ≡ true → b ≡ false → ⊥
+not-whole b is is_not = absurd (false≢true (sym is_not ∙ is))
+
+has-cause : {S : Type 0} (dones : List (Done S)) (worn now : Option ℕ) (folded : List (Folded S)) (all : Bool) → now ≡ worn → folded ≡ folded_of dones → all ≡ is_done dones → (worn ≡ None → all ≡ false) → HasCause now folded
+has-cause {S} dones worn now folded all same is done stopped none whole =
+    not-whole all (done ∙ whole-done dones (subst (λ (fs : List (Folded S)). All (λ (f : Folded S). fault_of f.ended ≡ None) fs) is whole)) (stopped (sym same ∙ none))
+
+pub err-folded : {S : Type 0} (way : Way S) (n : Nucleus) (pairs : List (Ui × Ui)) (dones : List (Done S)) (a c : Pass) (folded : Vec (Folded S)) (all : Bool) (worn : Option ℕ) (r : Result (Vec (Folded S)) (Unfinished S))
+    → worn_by c ≡ worn → IfErr r (λ s. s.folded ≡ folded) → OnErr r (worn ≡ None → all ≡ false) → folded.items ≡ folded_of dones → all ≡ is_done dones → HasFolded way n pairs folded.items a c → IfErr r (λ s. HasStopped way n pairs s.folded.items a c)
+err-folded way n pairs dones a c folded all worn (Ok v) same h stopped is done f = tt
+err-folded {S} way n pairs dones a c folded all worn (Err e) same h stopped is done f =
+    inr (subst (λ (w : Vec (Folded S)). HasFolded way n pairs w.items a c × HasCause (worn_by c) w.items) (sym h) (f, has-cause dones worn (worn_by c) folded.items all same is done stopped))
 
 -- with none drawn nothing was taken
 pub took-nothing : (a : Pass) → HasTakenNothing a a

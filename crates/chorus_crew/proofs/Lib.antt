@@ -5,5 +5,6 @@ pub mod Collecting
 pub mod Ended
 pub mod Handing
 pub mod Entered
+pub mod Faults
 pub mod Asked
 pub mod Adding

@@ -1,7 +1,7 @@
 -- How messages are handled, and what the pass of a job makes. q is the port, l the layout, S the type of the state that
 -- is kept for a port, way how messages are folded into it, value what a message at its position is worth, v and u are
 -- what the pass knows before and after.
-use Rattle.std.specs.Prelude.{ℕ, ◌≡◌, ◌+◌, ◌%◌, ◌^◌, Option, Some, None, List, [], ◌∷◌, ◌++◌, length}
+use Rattle.std.specs.Prelude.{ℕ, ◌≡◌, ◌+◌, ◌%◌, ◌^◌, List, [], ◌∷◌, ◌++◌, length}
 use Rattle.std.specs.List.{All}
 use Rattle.chorus_ui.specs.declared.ui.Ui.{Ui}
 use Rattle.chorus_ui.specs.declared.layout.Layout.{Layout}
@@ -10,9 +10,11 @@ use Rattle.chorus_entry.specs.declared.message.Message.{Message}
 use Rattle.law_replies.specs.Taking.{taken_acts}
 use Rattle.chorus_turn.specs.declared.knowledge.Knowledge.{Knowledge}
 use Rattle.law_closing.specs.Places.{PlaceNote}
-use Rattle.chorus_nucleus.specs.declared.fault.CallFault.{CallFault}
 use Rattle.chorus_nucleus.specs.declared.taken_message.TakenMessage.{TakenMessage}
-use Rattle.chorus_nucleus.specs.Taking.{Appends, IsMiss, HasOrigin, reply_with}
+use Rattle.chorus_nucleus.specs.Taking.{Appends, HasOrigin}
+use Rattle.chorus_nucleus.specs.Answers.{reply_with}
+use Rattle.chorus_crew.specs.declared.folding.EndedBy.{EndedBy}
+use Rattle.chorus_crew.specs.Endings.{last_acts}
 
 -- the state that a port begins with, and that after a message
 pub record Way (S : Type 0) : Type 0 where
@@ -45,19 +47,12 @@ pub record Folds {S : Type 0} (way : Way S) (q : Ui) (took : List TakenMessage) 
   pub number : count ≡ length took
   pub state_is : state ≡ after_all way q took (way.begun q)
 
--- how the takes of a port end: with one in vain, or with a fault, which appends nothing
-abbrev pub EndsBy : Ui → Option CallFault → List Act → Type 0
-EndsBy q None acts = (last : Act) × IsMiss q last × (acts ≡ last ∷ [])
-EndsBy q (Some f) acts = acts ≡ []
-
 -- these messages were taken and handled, and so it ended; nothing else was appended
 pub record Drains {S : Type 0} (way : Way S) (l : Layout) (q : Ui) (from count : ℕ) (state : S)
-    (stopped : Option CallFault) (v u : Knowledge PlaceNote) : Type 0 where
+    (ended : EndedBy) (v u : Knowledge PlaceNote) : Type 0 where
   pub took : List TakenMessage
   pub given : AreGiven l q took u
-  pub rest : List Act
-  pub ends : EndsBy q stopped rest
-  pub appends : Appends (took_acts q took ++ rest) v u
+  pub appends : Appends (took_acts q took ++ last_acts q ended) v u
   pub folds : Folds way q took from count state
 
 -- Values that are added up: the state is their sum, modulo 2^64.

@@ -11,24 +11,25 @@ use Rattle.chorus_nucleus.specs.declared.nucleus.Nucleus.{Nucleus}
 use Rattle.chorus_nucleus.specs.declared.pass.Pass.{Pass}
 use Rattle.chorus_nucleus.specs.Passes.{layout_of, known, caller_of, worn_by, IsPassOf}
 use Rattle.chorus_nucleus.specs.Calls.{worn_after}
-use Rattle.chorus_nucleus.specs.declared.taken_message.TakenMessage.{TakenMessage}
+use Rattle.chorus_nucleus.specs.declared.taken_message.TakeAnswer.{TakeAnswer}
 use Rattle.chorus_nucleus.specs.Taking.{KeepsPass, TakesOn}
 use Rattle.chorus_crew.specs.declared.job.Job.{Job}
 use Rattle.chorus_crew.specs.declared.job.Done.{Done}
 use Rattle.chorus_crew.specs.declared.job.Tally.{Tally}
+use Rattle.chorus_crew.specs.Endings.{fault_of}
 use Rattle.chorus_crew.specs.Handling.{Way, Drains}
 
 -- the first worn clock, where a fault may have come
 abbrev pub worn_behind : Option ℕ → Option CallFault → Option ℕ
 worn_behind o None = o
-worn_behind o (Some f) = worn_after {T = Option TakenMessage} o (Err f)
+worn_behind o (Some f) = worn_after {T = TakeAnswer} o (Err f)
 
 -- the messages of the port were taken and handled with this pass
 pub record IsWork {S : Type 0} (way : Way S) (n : Nucleus) (q : Ui) (t : Tally S) (old new : Pass) : Type 0 where
   pub keeps : KeepsPass n old new
   pub goes : TakesOn n q old new
-  pub work : Drains way (layout_of n) q t.from t.count t.state t.stopped (known old) (known new)
-  pub worn : worn_by new ≡ worn_behind (worn_by old) t.stopped
+  pub work : Drains way (layout_of n) q t.from t.count t.state t.ended (known old) (known new)
+  pub worn : worn_by new ≡ worn_behind (worn_by old) (fault_of t.ended)
 
 abbrev pub IsJobOf : Nucleus → Job → Type 0
 IsJobOf n job = IsPassOf n job.pass × (is_port job.port ≡ true)

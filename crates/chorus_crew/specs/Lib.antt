@@ -1,4 +1,5 @@
 pub mod Pairs
+pub mod Endings
 pub mod Handling
 pub mod Jobs
 pub mod Rule

@@ -4,7 +4,6 @@ use Rattle.std.specs.Prelude.{ℕ, ◌≡◌, ◌≤◌, ◌+◌, Bool, true, �
 use Rattle.std.specs.List.{All}
 use Rattle.std.specs.Option.{option_or}
 use Rattle.chorus_ui.specs.declared.ui.Ui.{Ui}
-use Rattle.chorus_entry.specs.declared.act.Act.{Act}
 use Rattle.chorus_turn.specs.declared.knowledge.Note.{Note}
 use Rattle.chorus_turn.specs.declared.knowledge.Placed.{Placed}
 use Rattle.chorus_turn.specs.Knowing.{note_of}
@@ -14,10 +13,12 @@ use Rattle.chorus_nucleus.specs.declared.nucleus.Nucleus.{Nucleus}
 use Rattle.chorus_nucleus.specs.declared.pass.Pass.{Pass}
 use Rattle.chorus_nucleus.specs.Passes.{known, caller_of, worn_by, IsPassOf}
 use Rattle.chorus_nucleus.specs.declared.taken_message.TakenMessage.{TakenMessage}
-use Rattle.chorus_nucleus.specs.Taking.{acts_made, IsMiss, SeesMore}
+use Rattle.chorus_nucleus.specs.Taking.{acts_made, SeesMore}
+use Rattle.chorus_crew.specs.declared.folding.EndedBy.{EndedBy}
 use Rattle.chorus_crew.specs.declared.folding.Folded.{Folded}
 use Rattle.chorus_crew.specs.declared.job.Done.{Done}
 use Rattle.chorus_crew.specs.declared.job.Tally.{Tally}
+use Rattle.chorus_crew.specs.Endings.{last_acts, fault_of}
 use Rattle.chorus_crew.specs.Handling.{took_acts}
 use Rattle.chorus_crew.specs.Jobs.{IsPlain}
 
@@ -26,7 +27,7 @@ passes_of {S} dones = map (λ (d : Done S). d.pass) dones
 
 -- what a job gave, and what all did
 abbrev pub folded_with : {S : Type 0} → Ui → Tally S → Folded S
-folded_with q t = record { port = q; from = t.from; count = t.count; state = t.state; stopped = t.stopped }
+folded_with q t = record { port = q; from = t.from; count = t.count; state = t.state; ended = t.ended }
 
 abbrev pub folded_of : {S : Type 0} → List (Done S) → List (Folded S)
 folded_of [] = []
@@ -35,7 +36,7 @@ folded_of (d ∷ dones) = folded_with d.port d.tally ∷ folded_of dones
 -- whether all were done to their end
 abbrev pub is_done : {S : Type 0} → List (Done S) → Bool
 is_done [] = true
-is_done (d ∷ dones) = is_none d.tally.stopped && is_done dones
+is_done (d ∷ dones) = is_none (fault_of d.tally.ended) && is_done dones
 
 -- the first worn clock, behind one that was there
 abbrev pub worn_of : {S : Type 0} → Option ℕ → List (Done S) → Option ℕ
@@ -63,10 +64,8 @@ pub record TakesIn (n : Nucleus) (old new : Pass) (ended : List Pass) : Type 0 w
 pub record TookAlone (made : List (Placed PlaceNote)) : Type 0 where
   pub port : Ui
   pub took : List TakenMessage
-  pub rest : List Act
-  pub vain : All (IsMiss port) rest
-  pub few : length rest ≤ 1
-  pub acts : acts_made made ≡ took_acts port took ++ rest
+  pub ended : EndedBy
+  pub acts : acts_made made ≡ took_acts port took ++ last_acts port ended
 
 -- the caller's pass is still the keeper, and each pass that was drawn ended in it: so the numbers drawn, less the
 -- passes ended, are as before

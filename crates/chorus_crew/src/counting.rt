@@ -4,7 +4,7 @@ ghost use Rattle.chorus_turn.specs.Knowing.{limit};
 ghost use Rattle.chorus_nucleus.specs.Passes.{layout_of, known, worn_by};
 ghost use Rattle.chorus_crew.specs.declared.fault.CrewFault.TheVariants as CrewFault;
 ghost use Rattle.chorus_crew.specs.Counting.{handled_from};
-ghost use Rattle.chorus_crew.specs.Crews.{IsCaller, HasHandled, HasStoppedAdding};
+ghost use Rattle.chorus_crew.specs.Crews.{IsCaller, HasHandled, HasStoppedAdding, FaultsTell};
 ghost use Rattle.chorus_crew.specs.Pairs.{are_pairs};
 ghost use Rattle.chorus_crew.specs.Retiring.{IsRetired};
 
@@ -92,11 +92,7 @@ pub fn crew<H: Handler, R: Threads + Wait + Sync>(
     ensures unworn { OnOk result (worn_by pass.new ≡ None) }
     ensures stopped { OnErr result (HasStoppedAdding (H.value handler.now) nucleus.now ports.now
         pass.old pass.new) }
-    ensures worn { (clock : ℕ) → IsErrOf result (CrewFault.Worn clock) →
-        worn_by pass.new ≡ Some clock }
-    ensures no_seat { (made : ℕ) → IsErrOf result (CrewFault.NoSeat made)
-        ↔ ((made ≡ (known pass.old).made) × (limit < (known pass.old).made + length ports.now)) }
-    ensures unchanged { (made : ℕ) → IsErrOf result (CrewFault.NoSeat made) → pass.new ≡ pass.old }
+    ensures faults { FaultsTell (IsErrOf result) (length ports.now) pass.old pass.new }
 {
     seats_for(pass, ports)?;
     let Ok(mut handled) = Vec::with_capacity(alloc, ports.len()) else {

@@ -1,9 +1,9 @@
 //! The crew.
-ghost use Rattle.std.specs.Prelude.{◌≡◌, ◌+◌, ◌<◌, ◌≤◌, ◌↔◌, ℕ, true, None, Some, [], IfOk, IfErr, OnOk, length};
+ghost use Rattle.std.specs.Prelude.{◌≡◌, ◌+◌, ◌<◌, ◌≤◌, ◌↔◌, ℕ, true, false, None, Some, [], IfOk, IfErr, OnOk, OnErr, length};
 ghost use Rattle.chorus_turn.specs.Knowing.{limit};
 ghost use Rattle.chorus_nucleus.specs.Passes.{layout_of, known, worn_by};
 ghost use Rattle.chorus_crew.specs.declared.fault.CrewFault.TheVariants as CrewFault;
-ghost use Rattle.chorus_crew.specs.Crews.{IsCaller, ArePairs, HasFoldedAll, HasStopped, GivesFault};
+ghost use Rattle.chorus_crew.specs.Crews.{IsCaller, HasSeats, HasFoldedAll, HasStopped, FaultsTell, GivesFault};
 ghost use Rattle.chorus_crew.specs.Pairs.{are_pairs};
 ghost use Rattle.chorus_crew.specs.Retiring.{IsRetired};
 ghost use Rattle.chorus_crew.specs.Tools.{IsEquipped};
@@ -28,6 +28,7 @@ fn answer<S: Drop>(
 ) -> Result<Vec<Folded<S>>, Unfinished<S>>
     ensures ok { IfOk result (λ v. (v ≡ folded) × (all ≡ true) × (worn ≡ None)) }
     ensures stopped { IfErr result (λ u. u.folded ≡ folded) }
+    ensures cause { OnErr result (worn ≡ None → all ≡ false) }
     ensures worn { (clock : ℕ) → GivesFault result (CrewFault.Worn clock) → worn ≡ Some clock }
     ensures no_seat { (made : ℕ) → GivesFault result (CrewFault.NoSeat made) → ⊥ }
 {
@@ -55,8 +56,7 @@ fn run_crew<F: Fold, R: Threads + Wait + Sync>(
     fold: &F,
 ) -> Result<Vec<Folded<F::State>>, Unfinished<F::State>>
     requires caller { IsCaller nucleus.now pass.old }
-    requires ports { ArePairs (layout_of nucleus.now) ports.now }
-    requires seats { (known pass.old).made + length ports.now ≤ limit }
+    requires seats { HasSeats (layout_of nucleus.now) ports.now pass.old }
     requires equipped { IsEquipped (length ports.now) workers tools folded }
     ensures retired { IsRetired nucleus.now pass.old pass.new }
     ensures ok { IfOk result (λ v. HasFoldedAll (F.way fold.now) nucleus.now ports.now v.items
@@ -64,9 +64,7 @@ fn run_crew<F: Fold, R: Threads + Wait + Sync>(
     ensures unworn { OnOk result (worn_by pass.new ≡ None) }
     ensures stopped { IfErr result (λ u. HasStopped (F.way fold.now) nucleus.now ports.now
         u.folded.items pass.old pass.new) }
-    ensures worn { (clock : ℕ) → GivesFault result (CrewFault.Worn clock) →
-        worn_by pass.new ≡ Some clock }
-    ensures no_seat { (made : ℕ) → GivesFault result (CrewFault.NoSeat made) → ⊥ }
+    ensures faults { FaultsTell (GivesFault result) (length ports.now) pass.old pass.new }
 {
     if let Err(fault) = enter_all(nucleus, pass, ports, &mut tools.jobs) {
         return Err(Unfinished {
@@ -112,7 +110,7 @@ fn not_begun<S: Drop>(alloc: Global, fault: CrewFault) -> Unfinished<S>
 /// the state is that after all of them. At every answer each pass that the call drew is retired into the caller's.
 ///
 /// At a fault what was taken till then is gone from the ports. It was handled, each message once and in order, and is
-/// told: of each pair the state, and the fault where one stopped it. Or nothing was taken. `NoSeat` comes exactly where
+/// told: of each pair the state, and why it ended. Or nothing was taken. `NoSeat` comes exactly where
 /// fewer numbers are left than there are pairs, and nothing was done then; `Worn` tells the pass's first worn clock.
 pub fn crew_with<F: Fold, R: Threads + Wait + Sync>(
     rt: &R,
@@ -132,12 +130,7 @@ pub fn crew_with<F: Fold, R: Threads + Wait + Sync>(
     ensures unworn { OnOk result (worn_by pass.new ≡ None) }
     ensures stopped { IfErr result (λ u. HasStopped (F.way fold.now) nucleus.now ports.now
         u.folded.items pass.old pass.new) }
-    ensures worn { (clock : ℕ) → GivesFault result (CrewFault.Worn clock) →
-        worn_by pass.new ≡ Some clock }
-    ensures no_seat { (made : ℕ) → GivesFault result (CrewFault.NoSeat made)
-        ↔ ((made ≡ (known pass.old).made) × (limit < (known pass.old).made + length ports.now)) }
-    ensures unchanged { (made : ℕ) → GivesFault result (CrewFault.NoSeat made) →
-        pass.new ≡ pass.old }
+    ensures faults { FaultsTell (GivesFault result) (length ports.now) pass.old pass.new }
 {
     if let Err(fault) = seats_for(pass, ports) {
         return Err(not_begun(alloc, fault));

@@ -1,5 +1,6 @@
 //! How a crew handles the messages of a port, and what it did at a port.
 ghost use Rattle.std.specs.Prelude.{◌≡◌};
+ghost use Rattle.chorus_crew.specs.Endings.{fault_of};
 ghost use Rattle.chorus_crew.specs.Handling.{Way};
 
 use chorus_nucleus::{CallFault, TakenMessage};
@@ -23,6 +24,30 @@ pub trait Fold: Sync {
         ensures { state.new ≡ (way self.now).after port taken state.old };
 }
 
+/// Why a crew's takes of a port ended.
+#[derive(Clone, Copy, Debug, PartialEq, Eq)]
+pub enum EndedBy {
+    /// The last take found no message that waits. The pair's actor held the port.
+    Empty,
+    /// The last take found that the pair's actor does not hold the port.
+    NotHere,
+    /// This fault of a take stopped it. Messages may be left.
+    Fault(CallFault),
+}
+
+impl EndedBy {
+    /// The fault, where one stopped it.
+    pub fn fault(self) -> Option<CallFault>
+        ensures { result ≡ fault_of self }
+    {
+        match self {
+            EndedBy::Fault(fault) => Some(fault),
+            EndedBy::Empty => None,
+            EndedBy::NotHere => None,
+        }
+    }
+}
+
 /// What a crew did at a port.
 #[derive(Drop)]
 pub struct Folded<S> {
@@ -34,6 +59,6 @@ pub struct Folded<S> {
     pub count: u64,
     /// The state after all of them.
     pub state: S,
-    /// None where the last take found no message for the pair's actor, else the fault for which the crew stopped there.
-    pub stopped: Option<CallFault>,
+    /// Why the takes ended.
+    pub ended: EndedBy,
 }

@@ -1,6 +1,7 @@
 //! A job, and a job that is done.
 
-use chorus_nucleus::{CallFault, Pass};
+use crate::folding::EndedBy;
+use chorus_nucleus::Pass;
 use chorus_ui::Ui;
 
 /// The messages of a port are to be handled, with this pass: the job with the number `index`.
@@ -11,14 +12,13 @@ pub struct Job {
     pub pass: Pass,
 }
 
-/// What a job gave: the position of the first message or 0, how many messages, the state after them, and for which
-/// fault it stopped before there was none left.
+/// What a job gave: the position of the first message or 0, how many messages, the state after them, and why it ended.
 #[derive(Drop)]
 pub struct Tally<S> {
     pub from: u64,
     pub count: u64,
     pub state: S,
-    pub stopped: Option<CallFault>,
+    pub ended: EndedBy,
 }
 
 /// A job that is done, with its pass.

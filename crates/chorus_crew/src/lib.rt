@@ -31,6 +31,6 @@ mod worker;
 pub use counting::crew;
 pub use crews::crew_with;
 pub use fault::{CrewFault, Unfinished};
-pub use folding::{Fold, Folded};
+pub use folding::{EndedBy, Fold, Folded};
 pub use handler::{Handled, Handler};
 pub use pairs::{PAIRS_LIMIT, are_pairs};

@@ -3,11 +3,12 @@ ghost use Rattle.std.specs.Prelude.{◌≡◌, ◌≢◌, ◌+◌, true, false, 
 ghost use Rattle.chorus_ui.specs.NameKind.{is_port};
 ghost use Rattle.chorus_nucleus.specs.Passes.{IsPassOf};
 ghost use Rattle.chorus_nucleus.specs.Taking.{is_busy};
+ghost use Rattle.chorus_crew.specs.Endings.{fault_of};
 ghost use Rattle.chorus_crew.specs.Jobs.{IsWork, IsJobOf, IsDoneOf};
 
-use crate::folding::Fold;
+use crate::folding::{EndedBy, Fold};
 use crate::job::{Done, Job, Tally};
-use chorus_nucleus::{Nucleus, Pass, take_when_free};
+use chorus_nucleus::{Nucleus, Pass, TakeAnswer, take_when_free};
 use chorus_ui::Ui;
 use std::sync::Wait;
 
@@ -45,32 +46,40 @@ fn drain<F: Fold, R: Wait>(
     requires pass { IsPassOf nucleus.now pass.old }
     requires port { is_port port ≡ true }
     ensures work { IsWork (F.way fold.now) nucleus.now port result pass.old pass.new }
-    ensures free { IfSome result.stopped (λ f. is_busy f ≡ false) }
+    ensures free { IfSome (fault_of result.ended) (λ f. is_busy f ≡ false) }
 {
     let mut from: u64 = 0;
     let mut count: u64 = 0;
     let mut state = fold.begin(port);
     for _ in rt.forever() {
         match take_when_free(rt, nucleus, pass, port) {
-            Ok(None) => {
+            Ok(TakeAnswer::Took(taken)) => {
+                from = first_of(count, from, taken.position);
+                count = one_more(rt, count);
+                fold.handle(&mut state, port, taken);
+            }
+            Ok(TakeAnswer::Empty) => {
                 return Tally {
                     from,
                     count,
                     state,
-                    stopped: None,
+                    ended: EndedBy::Empty,
                 };
             }
-            Ok(Some(taken)) => {
-                from = first_of(count, from, taken.position);
-                count = one_more(rt, count);
-                fold.handle(&mut state, port, taken);
+            Ok(TakeAnswer::NotHere) => {
+                return Tally {
+                    from,
+                    count,
+                    state,
+                    ended: EndedBy::NotHere,
+                };
             }
             Err(fault) => {
                 return Tally {
                     from,
                     count,
                     state,
-                    stopped: Some(fault),
+                    ended: EndedBy::Fault(fault),
                 };
             }
         }

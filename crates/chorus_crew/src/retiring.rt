@@ -5,12 +5,13 @@ ghost use Rattle.chorus_turn.specs.Lists.{somes};
 ghost use Rattle.chorus_nucleus.specs.Passes.{worn_by, IsPassOf};
 ghost use Rattle.chorus_crew.specs.declared.job.Job.{Job};
 ghost use Rattle.chorus_crew.specs.declared.job.Done.{Done};
+ghost use Rattle.chorus_crew.specs.Endings.{fault_of};
 ghost use Rattle.chorus_crew.specs.Jobs.{IsPlain};
 ghost use Rattle.chorus_crew.specs.Retiring.{IsFullSlot, TakesIn, passes_of, folded_of, folded_with, is_done, worn_of};
 
-use crate::folding::Folded;
+use crate::folding::{EndedBy, Folded};
 use crate::job::{Done, Job, Tally};
-use chorus_nucleus::{CallFault, Nucleus, Pass};
+use chorus_nucleus::{Nucleus, Pass};
 use chorus_ui::Ui;
 
 /// Retires the passes of all jobs, from the last on.
@@ -33,22 +34,22 @@ fn folded_by<S>(port: Ui, tally: Tally<S>) -> Folded<S>
         from,
         count,
         state,
-        stopped,
+        ended,
     } = tally;
     Folded {
         port,
         from,
         count,
         state,
-        stopped,
+        ended,
     }
 }
 
-/// Whether all jobs were done to their end, with one more that stopped for a fault or not.
-fn are_whole(all: bool, stopped: &Option<CallFault>) -> bool
-    ensures { result ≡ cond all (is_none stopped.now) false }
+/// Whether all jobs were done to their end, with one more that a fault stopped or not.
+fn are_whole(all: bool, ended: EndedBy) -> bool
+    ensures { result ≡ cond all (is_none (fault_of ended)) false }
 {
-    all && stopped.is_none()
+    all && ended.fault().is_none()
 }
 
 /// Retires the passes of all jobs that are done, in order, collects what they gave, and says whether each was done to
@@ -68,7 +69,8 @@ pub(crate) fn retire_done<S: Drop>(
         worn_by pass.new ≡ worn_of (worn_by pass.old) dones }
     ensures folded { (dones : List (Done S)) → slots.old.items ≡ somes dones →
         folded.new.items ≡ folded_of dones }
-    ensures done { (dones : List (Done S)) → slots.old.items ≡ somes dones → result ≡ is_done dones }
+    ensures done { (dones : List (Done S)) → slots.old.items ≡ somes dones →
+        result ≡ is_done dones }
 {
     let mut all = true;
     slots.reverse();
@@ -82,7 +84,7 @@ pub(crate) fn retire_done<S: Drop>(
                     tally,
                 } = done;
                 nucleus.retire(theirs, pass);
-                all = are_whole(all, &tally.stopped);
+                all = are_whole(all, tally.ended);
                 folded.push_reserved(folded_by(port, tally));
             }
             None => unreachable!(),

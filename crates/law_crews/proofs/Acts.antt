@@ -27,7 +27,8 @@ use Rattle.law_closing.specs.Places.{PlaceNote}
 use Rattle.chorus_turn.specs.declared.knowledge.Knowledge.{Knowledge}
 use Rattle.chorus_turn.specs.declared.knowledge.Placed.{Placed}
 use Rattle.chorus_nucleus.specs.declared.taken_message.TakenMessage.{TakenMessage}
-use Rattle.chorus_nucleus.specs.Taking.{acts_made, IsMiss, reply_with}
+use Rattle.chorus_nucleus.specs.Taking.{acts_made, IsMiss}
+use Rattle.chorus_nucleus.specs.Answers.{reply_with}
 use Rattle.chorus_crew.specs.declared.handler.Handled.{Handled}
 use Rattle.chorus_crew.specs.Handling.{took_acts}
 use Rattle.chorus_crew.specs.Crews.{IsHandled}

@@ -38,7 +38,8 @@ use Rattle.chorus_nucleus.specs.declared.pass.Pass.{Pass}
 use Rattle.chorus_nucleus.specs.Passes.{caller_of, known, layout_of}
 use Rattle.chorus_nucleus.specs.Closing.{ClosesAs, IsClosed}
 use Rattle.chorus_nucleus.specs.declared.taken_message.TakenMessage.{TakenMessage}
-use Rattle.chorus_nucleus.specs.Taking.{HasOrigin, IsMiss, reply_with}
+use Rattle.chorus_nucleus.specs.Taking.{HasOrigin, IsMiss}
+use Rattle.chorus_nucleus.specs.Answers.{reply_with}
 use Rattle.chorus_crew.specs.declared.handler.Handled.{Handled}
 use Rattle.chorus_crew.specs.Handling.{took_acts, worth as total_worth}
 use Rattle.chorus_crew.specs.Crews.{AreHandled, IsHandled}
@@ -47,7 +48,7 @@ use Rattle.law_emptied.specs.Crewed.{AreWithin, EndsInVain, Sending, TookWhatWas
 use Rattle.law_emptied.proofs.Taking.{takers-get-what-was-sent-first}
 use Rattle.law_crews.specs.Crewed as taking
 use Rattle.law_crews.proofs.Crewed.{closed-merges-as-crewed}
-use Rattle.law_crews.proofs.Posted.{messages-taken-were-posted}
+use Rattle.chorus_nucleus.proofs.Posted.{messages-taken-were-posted}
 use Rattle.law_crews.specs.Crews.{AreCounted, CrewsCountWhatWasSent, HasCrewed, IsActorOf, IsByBody, IsCounted, pairs_from}
 use Rattle.law_crews.proofs.Acts.{EndsWith, all-posted, ends-with, entry-acts, handled-acts, handled-ids, messages, same-messages}
 

@@ -1,4 +1,3 @@
-pub mod Posted
 pub mod Silent
 pub mod Crewed
 pub mod Positions

@@ -45,7 +45,7 @@ use Rattle.chorus_turn.specs.Journals.{at_place, by_seat}
 use Rattle.chorus_turn.specs.Knowing.{Shows, seen_at}
 use Rattle.law_emptied.specs.Crewed.{port_on}
 use Rattle.law_crews.specs.Crewed.{AreTakers, IsSettledAt}
-use Rattle.law_crews.proofs.Posted.{turns-append}
+use Rattle.chorus_nucleus.proofs.Posted.{turns-append}
 
 -- A take puts no packet.
 

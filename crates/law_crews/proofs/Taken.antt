@@ -38,14 +38,15 @@ use Rattle.chorus_nucleus.specs.declared.taken_message.TakenMessage.{TakenMessag
 use Rattle.chorus_nucleus.specs.Passes.{layout_of, known}
 use Rattle.chorus_nucleus.specs.Closing.{IsClosed}
 use Rattle.chorus_nucleus.specs.Runs.{IsARun}
-use Rattle.chorus_nucleus.specs.Taking.{acts_made, HasOrigin, reply_with}
+use Rattle.chorus_nucleus.specs.Taking.{acts_made, HasOrigin}
+use Rattle.chorus_nucleus.specs.Answers.{reply_with}
 use Rattle.chorus_nucleus.proofs.Running.{a-closed-nucleus-is-a-run}
 use Rattle.chorus_crew.specs.Handling.{AreGiven, took_acts}
 use Rattle.chorus_crew.proofs.Draining.{given-later}
 use Rattle.law_crews.specs.Taken.{CrewsTookWhatWasPosted, WasTaken}
 use Rattle.law_crews.proofs.HandedOut.{has-position}
 use Rattle.law_crews.proofs.Lists.{In, in-front, in-back, in-filter, in-filter-back, in-filter-holds, in-map, in-map-back, in-reverse, all-in, get-or, get-some}
-use Rattle.law_crews.proofs.Posted.{messages-taken-were-posted}
+use Rattle.chorus_nucleus.proofs.Posted.{messages-taken-were-posted}
 
 stands-so : (e : Entry) (past : List Entry) → In e past → StandsIn e past
 stands-so e [] a = absurd a

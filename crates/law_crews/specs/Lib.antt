@@ -1,4 +1,3 @@
-pub mod Posted
 pub mod Crewed
 pub mod Positions
 pub mod Crews

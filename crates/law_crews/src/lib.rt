@@ -5,7 +5,7 @@
 //! that were sent to each, as many as find room, each once: that joins the clauses of a crew with the laws of ports. The laws speak of
 //! the definitions alone and make no call.
 //!
-//! Begin with `specs/Posted.antt`, `specs/Crewed.antt` and `specs/Crews.antt`.
+//! Begin with `specs/Posted.antt` of `chorus_nucleus`, `specs/Crewed.antt` and `specs/Crews.antt`.
 #![tactic(auto)]
 
 pub mod crews;

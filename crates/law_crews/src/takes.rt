@@ -3,7 +3,7 @@
 ghost use Rattle.law_crews.specs.Crewed.{ClosedMergesAsCrewed};
 ghost use Rattle.law_crews.specs.Looks.{LooksToldWhatWaited};
 ghost use Rattle.law_crews.specs.Positions.{LegalTakesCountUp, LegalTakesFollow};
-ghost use Rattle.law_crews.specs.Posted.{MessagesTakenWerePosted};
+ghost use Rattle.chorus_nucleus.specs.Posted.{MessagesTakenWerePosted};
 
 /// A message that a take handed out has the id, the tag and the body that were posted, as the journals of the closed
 /// nucleus, merged, tell; a copy has those of the post of which it is a copy. So what is added up over the messages

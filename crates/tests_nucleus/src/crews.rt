@@ -4,7 +4,9 @@ ghost use Rattle.chorus_nucleus.specs.Passes.{IsPassOf};
 
 use crate::ground::{actor_of, assert_lawful, close, enter, make, port_of, retire, send, start};
 use crate::handlers::{Counts, InOrder, Meets};
-use chorus_crew::{CrewFault, Folded, Handled, Handler, Unfinished, are_pairs, crew, crew_with};
+use chorus_crew::{
+    CrewFault, EndedBy, Folded, Handled, Handler, Unfinished, are_pairs, crew, crew_with,
+};
 use chorus_entry::{Act, Entry};
 use chorus_net::Closed;
 use chorus_nucleus::{Nucleus, Pass};
@@ -241,7 +243,9 @@ fn a_crew_handles_each_message_once(rt: HostRuntime) {
 /// Whether the crew handled all messages of each port, and put down the position behind the last.
 fn is_folded(folded: &[Folded<u64>], task: &Task) -> bool {
     let messages = task.messages;
-    folded.iter().all(|one| one.count == messages && one.state == messages && one.stopped.is_none())
+    folded.iter().all(|one| one.count == messages
+        && one.state == messages
+        && one.ended == EndedBy::Empty)
 }
 
 /// How many messages a crew handled.
@@ -312,4 +316,27 @@ fn a_crew_folds_in_order(rt: HostRuntime) {
     let (nucleus, mut pass) = start(&rt, rt.alloc(), task.sites, 1);
     let calls = run_fold(&rt, rt.alloc(), &nucleus, &mut pass, &task);
     assert!(rt; takes_of(&close(&rt, nucleus, pass)) == calls);
+}
+
+/// A crew whose pair has an actor that does not hold the port takes nothing, and tells so.
+#[test]
+fn a_crew_tells_of_a_port_elsewhere(rt: HostRuntime) {
+    let task = Task {
+        sites: 1,
+        ports: 1,
+        messages: 2,
+        workers: 1,
+        crews: 1,
+    };
+    let (nucleus, mut pass) = start(&rt, rt.alloc(), task.sites, 1);
+    fill_all(&rt, rt.alloc(), &nucleus, &mut pass, &task, true);
+    let ports = [(port_of(&rt, 1, 1), actor_of(&rt, 1, 2))];
+    assert!(rt; pass.keeper() && pass.worn().is_none());
+    assert!(rt; are_pairs(nucleus.layout(), &ports));
+    let fold = InOrder::start();
+    let answer = crew_with(&rt, rt.alloc(), &nucleus, &mut pass, &ports, 1, &fold);
+    let folded = answer.ok().expect(&rt, "memory");
+    assert!(rt; folded.len() == 1 && fold.calls() == 0);
+    assert!(rt; folded[0].count == 0 && folded[0].ended == EndedBy::NotHere);
+    assert!(rt; takes_of(&close(&rt, nucleus, pass)) == 0);
 }

@@ -1,11 +1,10 @@
 use Rattle.std.proofs.Common.{◌≡◌, ℕ, List, [], ◌++◌, inl, length, map, refl, ap, ◌∙◌, arith}
-use Rattle.chorus_crew.specs.declared.fault.CrewFault.TheVariants as CrewFault
 use Rattle.chorus_crew.specs.declared.folding.Folded.{Folded}
 use Rattle.chorus_crew.specs.declared.handler.Handled.{Handled}
 use Rattle.chorus_crew.specs.Counting.{handled_from}
 use Rattle.chorus_crew.specs.Handling.{adding}
 use Rattle.chorus_crew.specs.Crews.{HasStoppedAdding}
-use Rattle.chorus_crew.proofs.Adding.{has-handled, folded-count, on-err, told-both}
+use Rattle.chorus_crew.proofs.Adding.{has-handled, folded-count, on-err, told-faults}
 use Rattle.chorus_crew.proofs.Handing.{retired-none, took-nothing}
 use Rattle.chorus_crew.proofs.counting.crew.Goals as goal
 
@@ -34,5 +33,5 @@ returns-in-Ok-crew_with-clause-ok g c =
     (c.count_all.ensures ∙ ap (λ (xs : List Handled). xs ++ map handled_from c.deref.result.now) c.in-Ok.ensures.items ∙ ap (λ (xs : List (Folded ℕ)). map handled_from xs) c.deref.ensures.value)
     c.in-Ok-crew_with.ensures.ok
 
-pub returns-in-Err-clause-no_seat : goal.returns-in-Err-clause-no_seat
-returns-in-Err-clause-no_seat g c = λ made. told-both _ c.in-Err.unfinished.fault (CrewFault.NoSeat made) refl (c.in-Err.ensures.no_seat made)
+pub returns-in-Err-clause-faults : goal.returns-in-Err-clause-faults
+returns-in-Err-clause-faults g c = told-faults c.in-Err.unfinished (length c.args.ports.now) c.args.pass.now c.crew_with.new.pass c.in-Err.ensures.faults

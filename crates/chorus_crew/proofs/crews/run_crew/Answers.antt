@@ -1,9 +1,11 @@
-use Rattle.std.proofs.Common.{◌≡◌, Option, List, length, arith, ap, subst, sym, ◌∙◌}
+use Rattle.std.proofs.Common.{◌≡◌, Option, List, length, refl, arith, ap, subst, sym, ◌∙◌}
 use Rattle.std.specs.List.{All}
 use Rattle.chorus_nucleus.specs.Passes.{known}
+use Rattle.chorus_crew.specs.declared.fault.CrewFault.TheVariants as faults
 use Rattle.chorus_crew.specs.declared.job.Done.{Done}
 use Rattle.chorus_crew.specs.Retiring.{IsFullSlot}
 use Rattle.chorus_crew.proofs.Handing.{entered-jobs, entered-numbers, entered-count, done-slots, done-count, all-retired, has-folded, ok-folded, ok-unworn, err-folded}
+use Rattle.chorus_crew.proofs.Faults.{no-memory, seats-there}
 use Rattle.chorus_crew.proofs.crews.run_crew.Goals as goal
 
 pub do_jobs-slots-requires-clause-tools : goal.do_jobs-slots-requires-clause-tools
@@ -24,7 +26,7 @@ do_jobs-slots-requires-clause-tools g c κs within =
 
 pub do_jobs-slots-requires-clause-jobs : goal.do_jobs-slots-requires-clause-jobs
 do_jobs-slots-requires-clause-jobs g c κs within =
-    entered-jobs c.args.nucleus.now 0 (known c.args.pass.now).made c.args.ports.now c.enter_all.new.jobs.items c.requires.ports.ports c.in_default.ensures.ok.1
+    entered-jobs c.args.nucleus.now 0 (known c.args.pass.now).made c.args.ports.now c.enter_all.new.jobs.items c.requires.seats.pairs_are.ports c.in_default.ensures.ok.1
 
 pub do_jobs-slots-requires-clause-numbers : goal.do_jobs-slots-requires-clause-numbers
 do_jobs-slots-requires-clause-numbers g c κs within =
@@ -69,12 +71,16 @@ returns-clause-stopped g c =
     let k = c.retire_done-all.ensures in
     let way = g.F.Fold.way c.args.fold.now in
     let n = c.args.nucleus.now in
-    err-folded way n c.args.ports.now c.args.pass.now c.retire_done-all.new.pass c.retire_done-all.new.folded c.answer.result c.answer.ensures.stopped
+    err-folded way n c.args.ports.now d.0 c.args.pass.now c.retire_done-all.new.pass c.retire_done-all.new.folded c.retire_done-all.result c.worn.result c.answer.result (sym c.worn.ensures) c.answer.ensures.stopped c.answer.ensures.cause (k.folded d.0 d.1) (k.done d.0 d.1)
     (has-folded way n c.args.ports.now c.enter_all.new.jobs.items d.0 c.args.pass.now c.enter_all.new.pass c.retire_done-all.new.pass c.retire_done-all.new.folded.items
     c.in_default.ensures.ok.0 c.in_default.ensures.ok.1 c.in_default.ensures.ok.2 d.2 (k.retired d.0 d.1) (k.folded d.0 d.1))
 
 pub returns-clause-unworn : goal.returns-clause-unworn
 returns-clause-unworn g c = ok-unworn _ c.worn.result c.retire_done-all.new.folded c.retire_done-all.result c.answer.result c.answer.ensures.ok (sym c.worn.ensures)
 
-pub returns-clause-worn : goal.returns-clause-worn
-returns-clause-worn g c = λ clock is. sym c.worn.ensures ∙ c.answer.ensures.worn clock is
+pub returns-in-Err-clause-faults : goal.returns-in-Err-clause-faults
+returns-in-Err-clause-faults g c =
+    no-memory _ _ (faults.Memory c.in-Err.fault) c.in-Err.fault c.args.pass.now c.enter_all.new.pass (λ e h. h) refl c.requires.seats.seats
+
+pub returns-clause-faults : goal.returns-clause-faults
+returns-clause-faults g c = seats-there _ _ c.args.pass.now c.retire_done-all.new.pass c.requires.seats.seats (λ clock is. sym c.worn.ensures ∙ c.answer.ensures.worn clock is) c.answer.ensures.no_seat

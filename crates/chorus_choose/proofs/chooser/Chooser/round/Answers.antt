@@ -6,16 +6,15 @@ use Rattle.chorus_choose.specs.Rounds.{IsReceive}
 use Rattle.chorus_choose.proofs.Asking.{Looked, in-vain, gives, stops}
 use Rattle.chorus_choose.proofs.chooser.Chooser.round.Goals as goal
 
-pub returns-in-Ok-Some-clause-round : goal.returns-in-Ok-Some-clause-round
-returns-in-Ok-Some-clause-round g c =
+pub returns-in-Some-clause-round : goal.returns-in-Some-clause-round
+returns-in-Some-clause-round g c =
     let xs : List Enabled = c.self.inside.enabled.items in
     let v : c.args.self.now ≡ xs = search rules in
     let h : c.loop-looked.looked < length xs = omega (arith, c.loop-looked-test.true) in
     let m : Looked c.args.nucleus.now (ports_of (take c.loop-looked.looked xs)) c.args.pass.now c.loop-looked.pass =
     subst (λ (l : List Enabled). Looked c.args.nucleus.now (ports_of (take c.loop-looked.looked l)) c.args.pass.now c.loop-looked.pass) v c.loop-looked.invariant.looked in
-    let k = rw c.in-Ok-Some.field-0-is at c.in-Ok-Some.ensures.take in
-    subst (λ (l : List Enabled). IsReceive c.args.nucleus.now [] (ports_of l) (Ok (receives.Taken c.index.result.now.port c.in-Ok-Some.taken.position c.in-Ok-Some.taken.message c.in-Ok-Some.taken.settled)) c.args.pass.now c.take_when_free.new.pass) (sym v)
-    (gives c.args.nucleus.now xs c.loop-looked.looked c.index.result.now c.args.pass.now c.loop-looked.pass c.take_when_free.new.pass h c.index.ensures m c.in-Ok-Some.taken k)
+    subst (λ (l : List Enabled). IsReceive c.args.nucleus.now [] (ports_of l) (Ok (receives.Taken c.index.result.now.port c.in-Some.taken.position c.in-Some.taken.message c.in-Some.taken.settled)) c.args.pass.now c.take_when_free.new.pass) (sym v)
+    (gives c.args.nucleus.now xs c.loop-looked.looked c.index.result.now c.args.pass.now c.loop-looked.pass c.take_when_free.new.pass h c.index.ensures m c.in-Ok.answer c.in-Some.taken (sym c.in-Some.ensures) c.in-Ok.ensures.take)
 
 pub returns-in-Err-clause-round : goal.returns-in-Err-clause-round
 returns-in-Err-clause-round g c =
@@ -35,9 +34,8 @@ loop-looked-preserved g c =
     let m : Looked c.args.nucleus.now (ports_of (take c.loop-looked.looked xs)) c.args.pass.now c.loop-looked.pass =
     subst (λ (l : List Enabled). Looked c.args.nucleus.now (ports_of (take c.loop-looked.looked l)) c.args.pass.now c.loop-looked.pass) v c.loop-looked.invariant.looked in
     let v_len : length c.args.self.now ≡ length xs = ap length v in
-    let k = rw c.in-Ok-None.field-0-is at c.in-Ok-None.ensures.take in
     record {
       within = omega (arith, h, v_len);
       looked = subst (λ (l : List Enabled). Looked c.args.nucleus.now (ports_of (take (c.loop-looked.looked + 1) l)) c.args.pass.now c.take_when_free.new.pass) (sym v)
-          (in-vain c.args.nucleus.now xs c.loop-looked.looked c.index.result.now c.args.pass.now c.loop-looked.pass c.take_when_free.new.pass h c.index.ensures m k);
+          (in-vain c.args.nucleus.now xs c.loop-looked.looked c.index.result.now c.args.pass.now c.loop-looked.pass c.take_when_free.new.pass h c.index.ensures m c.in-Ok.answer (sym c.in_default.ensures) c.in-Ok.ensures.take);
     }
