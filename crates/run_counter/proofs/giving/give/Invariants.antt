@@ -1,0 +1,5 @@
+use Rattle.chorus_sessions.specs.Sessions.{IsSession}
+use Rattle.run_counter.proofs.giving.give.Given as goal
+
+abbrev pub invariant-loop : goal.invariant-loop
+invariant-loop g l = IsSession l.nucleus l.session
