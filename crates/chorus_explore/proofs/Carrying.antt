@@ -1,6 +1,6 @@
 -- How many moves a search has carried out.
--- r is a race, c a scenario, most is how many events may be carried out, n a number of moves, s is a search, e what it came to, cs are
--- classes with their members.
+-- r is a race, c a scenario, asked is what is asked of a search, n a number of moves, s is one, e what it came to, cs are classes with
+-- their members.
 use Rattle.std.proofs.Common.{ℕ, zero, suc, ◌≡◌, ◌+◌, ◌<◌, ◌≤◌, true, false, List, [], ◌∷◌, length, take, drop, sum_by, Some, slice_get, ◌⊎◌, inl, inr, refl, sym, ◌∙◌, ap, subst, arith}
 use Rattle.std.specs.List.{All, Contains}
 use Rattle.std.proofs.lemmas.Bool.{cases_lt, false≢true}
@@ -18,6 +18,7 @@ use Rattle.law_explore.proofs.Searching.{none}
 use Rattle.law_replay.specs.Shown.{race_of}
 use Rattle.chorus_scene.specs.Scene.{Scene}
 use Rattle.explore_report.specs.declared.explored.Explored.{Explored}
+use Rattle.chorus_explore.specs.declared.level_search.Asked.{Asked}
 use Rattle.chorus_explore.specs.declared.level_search.Class.{Class}
 use Rattle.chorus_explore.specs.declared.level_search.Search.{Search}
 use Rattle.chorus_explore.specs.Classes.{StandFor, moves_from, shown_by}
@@ -123,7 +124,7 @@ less-behind : (r : Race) (levels : List (List Merged)) → all_moves r (drop 1 l
 less-behind r [] = omega arith
 less-behind r (cs ∷ levels) = (let a = sum_by-cons (λ (cs : List Merged). moves_behind r cs) cs levels in omega (arith, a))
 
-module _ (c : Scene) (most n : ℕ) (s : Search) (w : IsWithin c most n [] s) (so-far : HasCarried (race_of c) n s.explored) where
+module _ (c : Scene) (asked : Asked) (n : ℕ) (s : Search) (w : IsWithin c asked n [] s) (so-far : HasCarried (race_of c) n s.explored) where
   abbrev r : Race
   r = race_of c
 
@@ -131,7 +132,7 @@ module _ (c : Scene) (most n : ℕ) (s : Search) (w : IsWithin c most n [] s) (s
   on = w.merged ∷ so-far.levels
 
   goes-on : GoOnFrom (race_of c) n w.merged
-  goes-on = record { ends = w.ends; level = is-level c most n s w; among = all-among r n s.next.items w.merged w.stand; go_on = w.go_on }
+  goes-on = record { ends = w.ends; level = is-level c asked n s w; among = all-among r n s.next.items w.merged w.stand; go_on = w.go_on }
 
   all-are : AreLevels (race_of c) on
   all-are = (subst (λ (k : ℕ). GoOnFrom (race_of c) k w.merged) (sym so-far.below) goes-on, so-far.are)
@@ -173,8 +174,8 @@ module _ (c : Scene) (most n : ℕ) (s : Search) (w : IsWithin c most n [] s) (s
     most = (let a = so-far.all in omega (arith, a, events));
     all = λ uncut. (let a = so-far.all in omega (arith, a, events));
     last = λ uncut h is.
-        (let nothing = none-merged c most n s w s.next.items w.merged w.stand (left uncut) in
-        let level = subst (λ cs. IsLevel tells_of (race_of c) n cs w.ends) nothing (is-level c most n s w) in
+        (let nothing = none-merged c asked n s w s.next.items w.merged w.stand (left uncut) in
+        let level = subst (λ cs. IsLevel tells_of (race_of c) n cs w.ends) nothing (is-level c asked n s w) in
         let within = none-longer c n w.ends level h is in
         let b = w.bound in
         omega (arith, within, b, bound));

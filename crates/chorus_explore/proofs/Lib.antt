@@ -16,4 +16,5 @@ pub mod Spares
 pub mod Happening
 pub mod Whole
 pub mod Returning
+pub mod Deciding
 pub mod AlikeSites

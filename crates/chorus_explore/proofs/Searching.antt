@@ -1,5 +1,5 @@
 -- What the search keeps, as histories are come to, and as a level is gone on from.
--- c is a scenario, most is how many events may be carried out, n a number of moves, s is the search before, t behind it; e is what
+-- c is a scenario, asked is what is asked of the search, n a number of moves, s is the search before, t behind it; e is what
 -- it came to, m are the histories of a class, hs and pending are histories.
 use Rattle.std.proofs.Common.{ℕ, zero, suc, min, ◌≡◌, ◌+◌, ◌-◌, ◌^◌, ◌<◌, ◌≤◌, ◌==◌, Bool, true, false, cond, List, [], ◌∷◌, ◌++◌, length, map, take, reverse, get_or, set, sum_by, Some, slice_get, ◌⊎◌, inl, inr, refl, sym, ◌∙◌, ap, subst, arith, append_assoc}
 use Rattle.std.specs.List.{All, Contains, flat_map}
@@ -25,10 +25,12 @@ use Rattle.chorus_scene.specs.Scene.{Scene}
 use Rattle.chorus_scene.specs.declared.limits.TheConstants.{STEPS_LIMIT}
 use Rattle.explore_report.specs.declared.explored.Explored.{Explored}
 use Rattle.explore_report.specs.Findings.{AreFindings, AreLater, ComeTo, Counts}
+use Rattle.explore_report.specs.Judgements.{AreJudged, JudgesAll}
+use Rattle.chorus_explore.specs.declared.level_search.Asked.{Asked}
 use Rattle.chorus_explore.specs.declared.level_search.Class.{Class}
 use Rattle.chorus_explore.specs.declared.level_search.Search.{Search}
 use Rattle.chorus_explore.specs.Classes.{AreClasses, StandFor, StandsFor, shown_by}
-use Rattle.chorus_explore.specs.Searches.{HasFound, IsLong, IsOver, IsWithin, Come, LeavesOut}
+use Rattle.chorus_explore.specs.Searches.{HasFound, IsCut, IsEnough, IsLong, IsOver, IsWithin, Come, LeavesOut}
 use Rattle.chorus_explore.specs.Stages.{comes, position}
 use Rattle.chorus_explore.specs.Tellings.{tells_of}
 use Rattle.chorus_explore.proofs.Alike.{comes-the-same, tells-on}
@@ -180,7 +182,7 @@ module _ (c : Scene) where
     number = is.number ∙ ap told_number (sym (length-map m.members (λ (h : List Move). mv ∷ h)));
   }
 
-module _ (c : Scene) (most n : ℕ) where
+module _ (c : Scene) (asked : Asked) (n : ℕ) where
   -- The same histories, in another order.
 
   same-joined : (ds : List Merged) (ends pending : List (List Move)) (k : ℕ) (m : Merged) → k < length ds → SameHistories (all_members ds ++ ends ++ (m.members ++ pending)) (histories_of (race_of c) n)
@@ -247,7 +249,7 @@ module _ (c : Scene) (most n : ℕ) where
       by (inl same) false f ih = absurd (let one : off-by m k ≡ 1 = ap (λ (b : Bool). cond b 0 1) f in let a = sums in omega (arith, e, a, one))
       by (inr j) b f ih = ih (let a = sums in omega (arith, e, a)) h j
 
-  ends-long : (s : Search) (pending : List (List Move)) → (w : IsWithin c most n pending s) → (h : List Move) → Contains w.ends h → length h ≡ n
+  ends-long : (s : Search) (pending : List (List Move)) → (w : IsWithin c asked n pending s) → (h : List Move) → Contains w.ends h → length h ≡ n
   ends-long s pending w h i =
       let all = w.all (off-by n) in
       let listed = none-off n (histories_of (race_of c) n) (λ k j. (no-other (race_of c) n k j).1) in
@@ -259,7 +261,7 @@ module _ (c : Scene) (most n : ℕ) where
 
   module _ (s t : Search) (ms : List Move) (number : ℕ) (m : Merged) (is : StandsFor (race_of c) n ms number m) where
     -- none that was found is longer
-    later : (pending : List (List Move)) → (w : IsWithin c most n (m.members ++ pending) s) → AreLater (w.before ++ w.ends) m.members
+    later : (pending : List (List Move)) → (w : IsWithin c asked n (m.members ++ pending) s) → AreLater (w.before ++ w.ends) m.members
     later pending w =
         All-append (λ (g : List Move). All (λ (k : List Move). length g ≤ length k) m.members) w.before w.ends
         (λ i d lt j e within. (let a = (w.found.whole i d lt).1 in let b = (is.merged.members j e within).long in omega (arith, a, b)))
@@ -269,16 +271,19 @@ module _ (c : Scene) (most n : ℕ) where
         omega (arith, a, b)))
 
     -- the histories are whole
-    pub ended : next_behind (race_of c) ms ≡ [] → (text : List ℕ) → text ≡ comes c ms → Counts text ms number s.explored.findings.items.items t.explored.findings.items.items
+    pub ended : next_behind (race_of c) ms ≡ [] → (text : List ℕ) → text ≡ comes c ms
+        → (asked.tells ≡ true → Counts text ms number s.explored.findings.items.items t.explored.findings.items.items)
+        → JudgesAll asked.claims.now text ms s.explored.judged.items t.explored.judged.items
         → t.explored.histories ≡ min (s.explored.histories + number) (2 ^ 64 - 1) → t.explored.events ≡ s.explored.events → t.explored.is_cut ≡ s.explored.is_cut → t.explored.bound ≡ s.explored.bound → t.next ≡ s.next
-        → Come c most n m.members s t
-    ended none text e counts histories events cut bound next pending w =
+        → Come c asked n m.members s t
+    ended none text e counts judges histories events cut bound next pending w =
         record {
           before = w.before;
           ends = w.ends ++ m.members;
           merged = w.merged;
-          has = subst (λ xs. HasFound c most xs t.explored) (append_assoc w.before w.ends m.members) (record {
-            findings = counts (comes c) (w.before ++ w.ends) m.members (members-to c n ms number m is text e) (later pending w) w.has.findings;
+          has = subst (λ xs. HasFound c asked xs t.explored) (append_assoc w.before w.ends m.members) (record {
+            findings = λ tells. counts tells (comes c) (w.before ++ w.ends) m.members (members-to c n ms number m is text e) (later pending w) (w.has.findings tells);
+            judged = judges (comes c) (w.before ++ w.ends) m.members number (members-to c n ms number m is text e) (later pending w) w.has.judged;
             histories = told-both (length (w.before ++ w.ends)) (length m.members) s.explored.histories number t.explored.histories w.has.histories is.number histories
                 ∙ ap told_number (sym (length-append (w.before ++ w.ends) m.members));
             events = (let a = w.has.events in omega (arith, a, events));
@@ -294,14 +299,14 @@ module _ (c : Scene) (most n : ℕ) where
 
     -- they are put to a class
     pub put-to : (k : ℕ) (old new : Class) → slice_get s.next.items k ≡ Some old → new.moves ≡ old.moves → new.number ≡ min (old.number + number) (2 ^ 64 - 1)
-        → ComeToldAlike tells_of (race_of c) (shown_by old) ms → t.explored ≡ s.explored → t.next.items ≡ set s.next.items k new → Come c most n m.members s t
+        → ComeToldAlike tells_of (race_of c) (shown_by old) ms → t.explored ≡ s.explored → t.next.items ≡ set s.next.items k new → Come c asked n m.members s t
     put-to k old new at moves number-is alike same next pending w =
         let both = stand-joined c n k s.next.items w.merged old new ms number m w.stand at moves number-is is alike in
         record {
           before = w.before;
           ends = w.ends;
           merged = joined k m w.merged;
-          has = subst (HasFound c most (w.before ++ w.ends)) (sym same) w.has;
+          has = subst (HasFound c asked (w.before ++ w.ends)) (sym same) w.has;
           found = w.found;
           whole = w.whole;
           stand = subst (λ xs. StandFor (race_of c) n xs (joined k m w.merged)) (sym next) both.0;
@@ -313,7 +318,7 @@ module _ (c : Scene) (most n : ℕ) where
 
     -- they are a class of their own
     pub put-last : (class : Class) → shown_by class ≡ ms → class.number ≡ number → (next_behind (race_of c) ms ≡ [] → ⊥) → t.explored ≡ s.explored → t.next.items ≡ s.next.items ++ class ∷ []
-        → Come c most n m.members s t
+        → Come c asked n m.members s t
     put-last class moves number-is goes same next pending w =
         let stands : StandsFor (race_of c) n (shown_by class) class.number m =
         subst (λ ks. StandsFor (race_of c) n ks class.number m) (sym moves) (subst (λ k. StandsFor (race_of c) n ms k m) (sym number-is) is) in
@@ -321,7 +326,7 @@ module _ (c : Scene) (most n : ℕ) where
           before = w.before;
           ends = w.ends;
           merged = w.merged ++ m ∷ [];
-          has = subst (HasFound c most (w.before ++ w.ends)) (sym same) w.has;
+          has = subst (HasFound c asked (w.before ++ w.ends)) (sym same) w.has;
           found = w.found;
           whole = w.whole;
           stand = subst (λ xs. StandFor (race_of c) n xs (w.merged ++ m ∷ [])) (sym next) (stand-push (race_of c) n s.next.items w.merged class m w.stand stands);
@@ -333,14 +338,15 @@ module _ (c : Scene) (most n : ℕ) where
         }
 
   -- What is not looked at may change: of what was found only the events, and they rise within the limit.
-  pub come-by : (s t : Search) (pending : List (List Move)) → t.explored.findings ≡ s.explored.findings → t.explored.histories ≡ s.explored.histories → t.explored.events ≤ most
-      → t.explored.is_cut ≡ s.explored.is_cut → t.explored.bound ≡ s.explored.bound → t.next ≡ s.next → IsWithin c most n pending s → IsWithin c most n pending t
-  come-by s t pending findings histories events cut bound next w = record {
+  pub come-by : (s t : Search) (pending : List (List Move)) → t.explored.findings ≡ s.explored.findings → t.explored.judged ≡ s.explored.judged → t.explored.histories ≡ s.explored.histories → t.explored.events ≤ asked.most
+      → t.explored.is_cut ≡ s.explored.is_cut → t.explored.bound ≡ s.explored.bound → t.next ≡ s.next → IsWithin c asked n pending s → IsWithin c asked n pending t
+  come-by s t pending findings judged histories events cut bound next w = record {
     before = w.before;
     ends = w.ends;
     merged = w.merged;
     has = record {
-      findings = subst (λ (fs : _). AreFindings (comes c) (w.before ++ w.ends) fs.items.items) (sym findings) w.has.findings;
+      findings = λ tells. subst (λ (fs : _). AreFindings (comes c) (w.before ++ w.ends) fs.items.items) (sym findings) (w.has.findings tells);
+      judged = subst (λ (js : _). AreJudged (comes c) (w.before ++ w.ends) asked.claims.now js.items) (sym judged) w.has.judged;
       histories = histories ∙ w.has.histories;
       events = events;
     };
@@ -353,24 +359,24 @@ module _ (c : Scene) (most n : ℕ) where
     bound = bound ∙ w.bound;
   }
 
-  pub same-within : (s t : Search) (pending : List (List Move)) → t.explored ≡ s.explored → t.next ≡ s.next → IsWithin c most n pending s → IsWithin c most n pending t
+  pub same-within : (s t : Search) (pending : List (List Move)) → t.explored ≡ s.explored → t.next ≡ s.next → IsWithin c asked n pending s → IsWithin c asked n pending t
   same-within s t pending same next w =
-      come-by s t pending (ap (λ (e : Explored). e.findings) same) (ap (λ (e : Explored). e.histories) same)
+      come-by s t pending (ap (λ (e : Explored). e.findings) same) (ap (λ (e : Explored). e.judged) same) (ap (λ (e : Explored). e.histories) same)
       (let a = w.has.events in let b : t.explored.events ≡ s.explored.events = ap (λ (e : Explored). e.events) same in omega (arith, a, b)) (ap (λ (e : Explored). e.is_cut) same) (ap (λ (e : Explored). e.bound) same) next w
 
   -- So none goes beyond the bound, and none is missing before it.
-  pub none-beyond : (s : Search) (pending : List (List Move)) → (w : IsWithin c most n pending s) → All (λ (h : List Move). length h ≤ s.explored.bound) (w.before ++ w.ends)
+  pub none-beyond : (s : Search) (pending : List (List Move)) → (w : IsWithin c asked n pending s) → All (λ (h : List Move). length h ≤ s.explored.bound) (w.before ++ w.ends)
   none-beyond s pending w =
       All-append (λ (h : List Move). length h ≤ s.explored.bound) w.before w.ends
       (λ i d lt. (let a = (w.found.whole i d lt).1 in let b = w.bound in omega (arith, a, b)))
       (λ i d lt. (let a = ends-long s pending w (get_or w.ends i d) (Contains-get_or w.ends i d lt) in let b = w.bound in omega (arith, a, b)))
 
-  all-within : (s : Search) (pending : List (List Move)) → (w : IsWithin c most n pending s) → (h : List Move) → IsWhole (race_of c) h → length h < s.explored.bound
+  all-within : (s : Search) (pending : List (List Move)) → (w : IsWithin c asked n pending s) → (h : List Move) → IsWhole (race_of c) h → length h < s.explored.bound
       → Contains (w.before ++ w.ends) h
   all-within s pending w h whole lt = Contains-append_left w.before w.ends h (w.found.every h whole (let b = w.bound in omega (arith, lt, b)))
 
   -- From a history that is pending none of those found goes on.
-  pub left-out : (s : Search) (pending : List (List Move)) → (w : IsWithin c most n pending s) → (p : List Move) → IsHistory (replaying (race_of c)) p → length p ≡ n → Contains pending p
+  pub left-out : (s : Search) (pending : List (List Move)) → (w : IsWithin c asked n pending s) → (p : List Move) → IsHistory (replaying (race_of c)) p → length p ≡ n → Contains pending p
       → LeavesOut (race_of c) s.explored.bound (w.before ++ w.ends)
   left-out s pending w p history long among = record {
     moves = p;
@@ -389,39 +395,47 @@ module _ (c : Scene) (most n : ℕ) where
           let here-are = append-nil (all_members w.merged ++ (w.ends ++ pending)) ∙ sym (append_assoc (all_members w.merged) w.ends pending) in
           front-once (race_of c) n w.before (all_members w.merged) (w.ends ++ pending) [] w.found (subst (λ xs. SameHistories xs (histories_of (race_of c) n)) (sym here-are) w.all)
 
-  -- A limit is met.
-  cut-by : (s t : Search) (pending : List (List Move)) → t.explored ≡ record s.explored { is_cut = true } → (s.explored.events ≡ most) ⊎ IsLong c
-      → (w : IsWithin c most n pending s) → LeavesOut (race_of c) s.explored.bound (w.before ++ w.ends) → IsOver c most t.explored
-  cut-by s t pending same why w out = subst (IsOver c most) (sym same) (record {
+  -- It is cut off.
+  cut-by : (s t : Search) (pending : List (List Move)) → t.explored ≡ record s.explored { is_cut = true } → IsCut c asked s.explored
+      → (w : IsWithin c asked n pending s) → LeavesOut (race_of c) s.explored.bound (w.before ++ w.ends) → IsOver c asked t.explored
+  cut-by s t pending same why w out = subst (IsOver c asked) (sym same) (record {
     found = w.before ++ w.ends;
-    has = record { findings = w.has.findings; histories = w.has.histories; events = w.has.events };
+    has = record { findings = w.has.findings; judged = w.has.judged; histories = w.has.histories; events = w.has.events };
     whole = All-append (IsWhole (race_of c)) w.before w.ends
         (All-weaker (λ (h : List Move). IsWhole (race_of c) h × (length h < n)) (IsWhole (race_of c)) (λ h is. is.0) w.before w.found.whole) w.whole;
     once = front-once (race_of c) n w.before (all_members w.merged) w.ends pending w.found w.all;
     bounded = all-within s pending w;
     within = none-beyond s pending w;
     every = λ k. absurd (false≢true (sym k));
-    cut = λ k. why;
+    cut = λ k. by why;
     out = λ k. out;
   })
+    where
+      by : IsCut c asked s.explored → IsCut c asked (record s.explored { is_cut = true })
+      by (inl limit) = inl limit
+      by (inr settled) = inr (record { untold = settled.untold; failed = settled.failed })
 
-  pub cut-off : (s t : Search) (pending : List (List Move)) → t.explored ≡ record s.explored { is_cut = true } → most ≤ s.explored.events
-      → (p : List Move) → IsHistory (replaying (race_of c)) p → length p ≡ n → Contains pending p → IsWithin c most n pending s → IsOver c most t.explored
-  cut-off s t pending same full p history long among w =
-      cut-by s t pending same (inl (let a = w.has.events in omega (arith, a, full))) w (left-out s pending w p history long among)
+  pub cut-off : (s t : Search) (pending : List (List Move)) → t.explored ≡ record s.explored { is_cut = true } → IsEnough asked s.explored
+      → (p : List Move) → IsHistory (replaying (race_of c)) p → length p ≡ n → Contains pending p → IsWithin c asked n pending s → IsOver c asked t.explored
+  cut-off s t pending same enough p history long among w =
+      cut-by s t pending same (by enough) w (left-out s pending w p history long among)
+    where
+      by : IsEnough asked s.explored → IsCut c asked s.explored
+      by (inl full) = inl (inl (let a = w.has.events in omega (arith, a, full)))
+      by (inr settled) = inr settled
 
   -- Several histories come, one after the other.
 
-  pub come-none : (s : Search) → Come c most n [] s s
+  pub come-none : (s : Search) → Come c asked n [] s s
   come-none s pending w = w
 
-  pub come-both : (hs ks : List (List Move)) (s t u : Search) → Come c most n hs s t → Come c most n ks t u → Come c most n (hs ++ ks) s u
+  pub come-both : (hs ks : List (List Move)) (s t u : Search) → Come c asked n hs s t → Come c asked n ks t u → Come c asked n (hs ++ ks) s u
   come-both hs ks s t u one two pending w =
-      two pending (one (ks ++ pending) (subst (λ xs. IsWithin c most n xs s) (append_assoc hs ks pending) w))
+      two pending (one (ks ++ pending) (subst (λ xs. IsWithin c asked n xs s) (append_assoc hs ks pending) w))
 
 -- A level begins, and the search is over where no class is left.
 
-module _ (c : Scene) (most n : ℕ) (s : Search) (w : IsWithin c most n [] s) where
+module _ (c : Scene) (asked : Asked) (n : ℕ) (s : Search) (w : IsWithin c asked n [] s) where
   abbrev all-of-level : SameHistories (all_members w.merged ++ w.ends) (histories_of (race_of c) n)
   all-of-level = subst (λ xs. SameHistories xs (histories_of (race_of c) n)) (append-nil (all_members w.merged ++ w.ends)) w.all
 
@@ -442,14 +456,14 @@ module _ (c : Scene) (most n : ℕ) (s : Search) (w : IsWithin c most n [] s) wh
   now-found = (levels-of-merged-find-all tells_of (race_of c) tells-on (is-race c)).more n w.merged w.ends w.before w.found is-level w.go_on
 
   pub level-begins : (t : Search) (bound : ℕ) → bound ≡ suc n → t.explored ≡ record s.explored { bound = bound } → t.next.items ≡ []
-      → IsWithin c most (suc n) (next_members (race_of c) w.merged) t
+      → IsWithin c asked (suc n) (next_members (race_of c) w.merged) t
   level-begins t bound is same next = record {
     before = w.before ++ w.ends;
     ends = [];
     merged = [];
-    has = subst (HasFound c most ((w.before ++ w.ends) ++ [])) (sym same)
-        (subst (λ xs. HasFound c most xs (record s.explored { bound = bound })) (sym (append-nil (w.before ++ w.ends)))
-        (record { findings = w.has.findings; histories = w.has.histories; events = w.has.events }));
+    has = subst (HasFound c asked ((w.before ++ w.ends) ++ [])) (sym same)
+        (subst (λ xs. HasFound c asked xs (record s.explored { bound = bound })) (sym (append-nil (w.before ++ w.ends)))
+        (record { findings = w.has.findings; judged = w.has.judged; histories = w.has.histories; events = w.has.events }));
     found = now-found;
     whole = All-nil (IsWhole (race_of c));
     stand = subst (λ xs. StandFor (race_of c) (suc n) xs []) (sym next) tt;
@@ -464,7 +478,7 @@ module _ (c : Scene) (most n : ℕ) (s : Search) (w : IsWithin c most n [] s) wh
   none-merged [] (m ∷ ms) h e = absurd h
   none-merged (k ∷ classes) ms h e = absurd (cc)
 
-  pub search-ends : s.next.items ≡ [] → IsOver c most s.explored
+  pub search-ends : s.next.items ≡ [] → IsOver c asked s.explored
   search-ends none-left =
       let nothing = none-merged s.next.items w.merged w.stand none-left in
       let level = subst (λ ms. IsLevel tells_of (race_of c) n ms w.ends) nothing is-level in
@@ -473,8 +487,8 @@ module _ (c : Scene) (most n : ℕ) (s : Search) (w : IsWithin c most n [] s) wh
         has = w.has;
         whole = All-weaker (λ (h : List Move). IsWhole (race_of c) h × (length h < suc n)) (IsWhole (race_of c)) (λ h is. is.0) (w.before ++ w.ends) now-found.whole;
         once = now-found.once;
-        bounded = all-within c most n s [] w;
-        within = none-beyond c most n s [] w;
+        bounded = all-within c asked n s [] w;
+        within = none-beyond c asked n s [] w;
         cut = λ k. absurd (false≢true (sym w.uncut ∙ k));
         out = λ k. absurd (false≢true (sym w.uncut ∙ k));
         every = λ k. (levels-of-merged-find-all tells_of (race_of c) tells-on (is-race c)).all n w.ends w.before w.found level;
@@ -492,13 +506,13 @@ long-one c n (k ∷ classes) (m ∷ ms) h go_on some is = record {
 }
 
 -- and none of those found goes on from it
-long-out : (c : Scene) (most n : ℕ) (s : Search) → (w : IsWithin c most n [] s) → (long : IsLong c) → length long.moves ≡ n → LeavesOut (race_of c) s.explored.bound (w.before ++ w.ends)
-long-out c most n s w long is = record {
+long-out : (c : Scene) (asked : Asked) (n : ℕ) (s : Search) → (w : IsWithin c asked n [] s) → (long : IsLong c) → length long.moves ≡ n → LeavesOut (race_of c) s.explored.bound (w.before ++ w.ends)
+long-out c asked n s w long is = record {
   moves = long.moves;
   history = long.history;
   long = is ∙ sym w.bound;
   out = λ more i.
-      (let le = All-contains (λ (h : List Move). length h ≤ s.explored.bound) (w.before ++ w.ends) (more ++ long.moves) (none-beyond c most n s [] w) i in
+      (let le = All-contains (λ (h : List Move). length h ≤ s.explored.bound) (w.before ++ w.ends) (more ++ long.moves) (none-beyond c asked n s [] w) i in
       let b = w.bound in
       let l = length-append more long.moves in
       let nothing : more ≡ [] = nil_from_length more (omega (arith, le, b, l, is)) in
@@ -511,16 +525,16 @@ long-out c most n s w long is = record {
         (All-weaker (λ (h : List Move). IsWhole (race_of c) h × (length h < n)) (IsWhole (race_of c)) (λ h is. is.0) w.before w.found.whole) w.whole
 
 -- where the last level is come to it is over, cut off if a class is left
-pub over-by : (c : Scene) (most n : ℕ) (s : Search) → IsWithin c most n [] s → n ≡ STEPS_LIMIT → (cut : Bool) → (cut ≡ false → s.next.items ≡ []) → (cut ≡ true → s.next.items ≡ [] → ⊥)
-    → IsOver c most (record s.explored { is_cut = cut })
-over-by c most n s w last true none some =
+pub over-by : (c : Scene) (asked : Asked) (n : ℕ) (s : Search) → IsWithin c asked n [] s → n ≡ STEPS_LIMIT → (cut : Bool) → (cut ≡ false → s.next.items ≡ []) → (cut ≡ true → s.next.items ≡ [] → ⊥)
+    → IsOver c asked (record s.explored { is_cut = cut })
+over-by c asked n s w last true none some =
     let long = long-one c n s.next.items w.merged w.stand w.go_on (some refl) last in
-    cut-by c most n s (record s { explored = record s.explored { is_cut = true } }) [] refl (inr long) w (long-out c most n s w long (long.long ∙ sym last))
-over-by c most n s w last false none some = subst (λ (e : Explored). IsOver c most e) (λ i. record s.explored { is_cut = w.uncut i }) (search-ends c most n s w (none refl))
+    cut-by c asked n s (record s { explored = record s.explored { is_cut = true } }) [] refl (inl (inr long)) w (long-out c asked n s w long (long.long ∙ sym last))
+over-by c asked n s w last false none some = subst (λ (e : Explored). IsOver c asked e) (λ i. record s.explored { is_cut = w.uncut i }) (search-ends c asked n s w (none refl))
 
 -- The first position.
 
-module _ (c : Scene) (most : ℕ) where
+module _ (c : Scene) (asked : Asked) where
   abbrev pub root : Merged
   root = record { shows = []; members = [] ∷ [] }
 
@@ -536,14 +550,15 @@ module _ (c : Scene) (most : ℕ) where
     number = refl;
   }
 
-  pub first-within : (s : Search) → s.explored.findings.items.items ≡ [] → s.explored.histories ≡ 0 → s.explored.events ≡ 0 → s.explored.is_cut ≡ false → s.explored.bound ≡ 0 → s.next.items ≡ []
-      → IsWithin c most 0 ([] ∷ []) s
-  first-within s findings histories events uncut bound next = record {
+  pub first-within : (s : Search) → s.explored.findings.items.items ≡ [] → AreJudged (comes c) [] asked.claims.now s.explored.judged.items → s.explored.histories ≡ 0 → s.explored.events ≡ 0 → s.explored.is_cut ≡ false → s.explored.bound ≡ 0 → s.next.items ≡ []
+      → IsWithin c asked 0 ([] ∷ []) s
+  first-within s findings judged histories events uncut bound next = record {
     before = [];
     ends = [];
     merged = [];
     has = record {
-      findings = subst (AreFindings (comes c) []) (sym findings) (none-found (comes c));
+      findings = λ tells. subst (AreFindings (comes c) []) (sym findings) (none-found (comes c));
+      judged = judged;
       histories = histories;
       events = omega (arith, events);
     };
@@ -609,8 +624,8 @@ as-many-stand r n (k ∷ classes) (m ∷ ms) h = ap suc (as-many-stand r n class
 
 -- One class of a level goes on.
 
-module _ (c : Scene) (most n : ℕ) (classes : List Class) (ms : List Merged) (stand : StandFor (race_of c) n classes ms) (i : ℕ) (class : Class) (at : slice_get classes i ≡ Some class) (s t u : Search)
-    (come : Come c most (suc n) (next_members (race_of c) (take i ms)) s t) where
+module _ (c : Scene) (asked : Asked) (n : ℕ) (classes : List Class) (ms : List Merged) (stand : StandFor (race_of c) n classes ms) (i : ℕ) (class : Class) (at : slice_get classes i ≡ Some class) (s t u : Search)
+    (come : Come c asked (suc n) (next_members (race_of c) (take i ms)) s t) where
   abbrev it : (m : Merged) × ((slice_get ms i ≡ Some m) × StandsFor (race_of c) n (shown_by class) class.number m)
   it = stand-at (race_of c) n classes ms i class stand at
 
@@ -623,38 +638,38 @@ module _ (c : Scene) (most n : ℕ) (classes : List Class) (ms : List Merged) (s
   on-is : of-one it.0 ≡ on
   on-is = ap (λ h. going_on (next_behind (race_of c) h) it.0.members) it.1.1.shows
 
-  pub class-come : Come c most (suc n) on t u → Come c most (suc n) (next_members (race_of c) (take (i + 1) ms)) s u
+  pub class-come : Come c asked (suc n) on t u → Come c asked (suc n) (next_members (race_of c) (take (i + 1) ms)) s u
   class-come next =
-      subst (λ hs. Come c most (suc n) hs s u) (sym (flat-more of-one ms i it.0 it.1.0 ∙ ap (λ hs. next_members (race_of c) (take i ms) ++ hs) on-is))
-      (come-both c most (suc n) (next_members (race_of c) (take i ms)) on s t u come next)
+      subst (λ hs. Come c asked (suc n) hs s u) (sym (flat-more of-one ms i it.0 it.1.0 ∙ ap (λ hs. next_members (race_of c) (take i ms) ++ hs) on-is))
+      (come-both c asked (suc n) (next_members (race_of c) (take i ms)) on s t u come next)
 
-  pub class-cut : ((pending : List (List Move)) → IsWithin c most (suc n) (on ++ pending) t → IsOver c most u.explored)
-      → (pending : List (List Move)) → IsWithin c most (suc n) (next_members (race_of c) ms ++ pending) s → IsOver c most u.explored
+  pub class-cut : ((pending : List (List Move)) → IsWithin c asked (suc n) (on ++ pending) t → IsOver c asked u.explored)
+      → (pending : List (List Move)) → IsWithin c asked (suc n) (next_members (race_of c) ms ++ pending) s → IsOver c asked u.explored
   class-cut cut pending w =
       let rest = flat-rest of-one ms i it.0 it.1.0 in
       let is : next_members (race_of c) ms ++ pending ≡ next_members (race_of c) (take i ms) ++ (on ++ (rest.0 ++ pending)) =
       ap (λ hs. hs ++ pending) (rest.1 ∙ ap (λ hs. next_members (race_of c) (take i ms) ++ (hs ++ rest.0)) on-is)
       ∙ append_assoc (next_members (race_of c) (take i ms)) (on ++ rest.0) pending ∙ ap (λ hs. next_members (race_of c) (take i ms) ++ hs) (append_assoc on rest.0 pending) in
-      cut (rest.0 ++ pending) (come (on ++ (rest.0 ++ pending)) (subst (λ hs. IsWithin c most (suc n) hs s) is w))
+      cut (rest.0 ++ pending) (come (on ++ (rest.0 ++ pending)) (subst (λ hs. IsWithin c asked (suc n) hs s) is w))
 
 -- And one move of a class.
 
-module _ (c : Scene) (most n : ℕ) (moves : List Move) (members : List (List Move)) (i : ℕ) (mv : Move) (at : slice_get moves i ≡ Some mv) (s t u : Search)
-    (come : Come c most n (going_on (take i moves) members) s t) where
+module _ (c : Scene) (asked : Asked) (n : ℕ) (moves : List Move) (members : List (List Move)) (i : ℕ) (mv : Move) (at : slice_get moves i ≡ Some mv) (s t u : Search)
+    (come : Come c asked n (going_on (take i moves) members) s t) where
   abbrev by-one : Move → List (List Move)
   by-one m = going_by m members
 
-  pub move-come : Come c most n (going_by mv members) t u → Come c most n (going_on (take (i + 1) moves) members) s u
+  pub move-come : Come c asked n (going_by mv members) t u → Come c asked n (going_on (take (i + 1) moves) members) s u
   move-come next =
-      subst (λ hs. Come c most n hs s u) (sym (flat-more by-one moves i mv at))
-      (come-both c most n (going_on (take i moves) members) (going_by mv members) s t u come next)
+      subst (λ hs. Come c asked n hs s u) (sym (flat-more by-one moves i mv at))
+      (come-both c asked n (going_on (take i moves) members) (going_by mv members) s t u come next)
 
-  pub move-cut : ((pending : List (List Move)) → IsWithin c most n (going_by mv members ++ pending) t → IsOver c most u.explored)
-      → (pending : List (List Move)) → IsWithin c most n (going_on moves members ++ pending) s → IsOver c most u.explored
+  pub move-cut : ((pending : List (List Move)) → IsWithin c asked n (going_by mv members ++ pending) t → IsOver c asked u.explored)
+      → (pending : List (List Move)) → IsWithin c asked n (going_on moves members ++ pending) s → IsOver c asked u.explored
   move-cut cut pending w =
       let rest = flat-rest by-one moves i mv at in
       let on = going_by mv members in
       let is : going_on moves members ++ pending ≡ going_on (take i moves) members ++ (going_by mv members ++ (rest.0 ++ pending)) =
       ap (λ hs. hs ++ pending) rest.1
       ∙ append_assoc (going_on (take i moves) members) (on ++ rest.0) pending ∙ ap (λ hs. going_on (take i moves) members ++ hs) (append_assoc on rest.0 pending) in
-      cut (rest.0 ++ pending) (come (going_by mv members ++ (rest.0 ++ pending)) (subst (λ hs. IsWithin c most n hs s) is w))
+      cut (rest.0 ++ pending) (come (going_by mv members ++ (rest.0 ++ pending)) (subst (λ hs. IsWithin c asked n hs s) is w))

@@ -4,6 +4,7 @@ pub mod Classes
 pub mod Events
 pub mod Searches
 pub mod Explored
+pub mod Checked
 pub mod Ends
 pub mod Shown
 pub mod AlikeSites

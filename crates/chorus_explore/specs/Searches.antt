@@ -1,6 +1,6 @@
 -- A search, and what it came to.
--- c is a scenario, most is how many events may be carried out, n a number of moves, hs, found and pending are histories,
--- s is a search, old and new before and after, e what it came to.
+-- c is a scenario, asked is what is asked of a search, n a number of moves, hs, found and pending are histories, s is a
+-- search, old and new before and after, e what it came to.
 use Rattle.std.specs.Prelude.{ℕ, ◌≡◌, ◌<◌, ◌≤◌, ◌⊎◌, Bool, true, false, List, ◌++◌, length, Option, Result, Ok, IfSome, Contains}
 use Rattle.std.specs.List.{All}
 use Rattle.chorus_place.specs.declared.fault.PlaceFault.{PlaceFault}
@@ -15,16 +15,21 @@ use Rattle.chorus_scene.specs.Scene.{Scene}
 use Rattle.chorus_scene.specs.declared.limits.TheConstants.{STEPS_LIMIT}
 use Rattle.explore_report.specs.declared.explored.Explored.{Explored}
 use Rattle.explore_report.specs.Findings.{AreFindings, HaveSums}
+use Rattle.explore_report.specs.Judgements.{AreJudged, has_failed}
+use Rattle.explore_report.specs.declared.judgements.Judgement.{Judgement}
+use Rattle.chorus_explore.specs.declared.level_search.Asked.{Asked}
 use Rattle.chorus_explore.specs.declared.level_search.Search.{Search}
 use Rattle.chorus_explore.specs.declared.race_sites.Stage.{Stage}
 use Rattle.chorus_explore.specs.Classes.{AreClasses, StandFor}
 use Rattle.chorus_explore.specs.Stages.{AreSpare, IsReached, IsReachedIf, comes}
 
--- these histories were found, so many, by no more events than were allowed
-pub record HasFound (c : Scene) (most : ℕ) (found : List (List Move)) (e : Explored) : Type 0 where
-  pub findings : AreFindings (comes c) found e.findings.items.items
+-- These histories were found, so many, by no more events than were allowed. The claims are judged by them, and where
+-- outcomes are told, theirs are.
+pub record HasFound (c : Scene) (asked : Asked) (found : List (List Move)) (e : Explored) : Type 0 where
+  pub findings : asked.tells ≡ true → AreFindings (comes c) found e.findings.items.items
+  pub judged : AreJudged (comes c) found asked.claims.now e.judged.items
   pub histories : e.histories ≡ told_number (length found)
-  pub events : e.events ≤ most
+  pub events : e.events ≤ asked.most
 
 -- there is a history of so many moves from which none of those found goes on
 pub record LeavesOut (r : Race) (n : ℕ) (found : List (List Move)) : Type 0 where
@@ -40,18 +45,32 @@ pub record IsLong (c : Scene) : Type 0 where
   pub long : length moves ≡ STEPS_LIMIT
   pub goes_on : IsEnd (race_of c) moves → ⊥
 
+-- nothing is left to be found: no outcome is told, and each claim has failed
+pub record IsSettled (asked : Asked) (e : Explored) : Type 0 where
+  pub untold : asked.tells ≡ false
+  pub failed : All (λ (j : Judgement). has_failed j ≡ true) e.judged.items
+
+-- the search ends here
+abbrev pub IsEnough : Asked → Explored → Type 0
+IsEnough asked e = (asked.most ≤ e.events) ⊎ IsSettled asked e
+
+-- why it ends before all was gone over
+abbrev pub IsCut : Scene → Asked → Explored → Type 0
+IsCut c asked e = ((e.events ≡ asked.most) ⊎ IsLong c) ⊎ IsSettled asked e
+
 -- They are whole, each stands once, and none is missing that has fewer moves than the bound, which none of them goes
--- beyond; where no limit was met they are all such. A limit is met where as many events were carried out as were allowed,
--- or where there is a history that may not be gone on from; then one of as many moves as the bound is left out.
-pub record IsOver (c : Scene) (most : ℕ) (e : Explored) : Type 0 where
+-- beyond; where it was not cut off they are all such. It is cut off where as many events were carried out as were allowed,
+-- where there is a history that may not be gone on from, or where nothing is left to be found; then one of as many moves
+-- as the bound is left out.
+pub record IsOver (c : Scene) (asked : Asked) (e : Explored) : Type 0 where
   pub found : List (List Move)
-  pub has : HasFound c most found e
+  pub has : HasFound c asked found e
   pub whole : All (IsWhole (race_of c)) found
   pub once : AreOnce found
   pub bounded : (h : List Move) → IsWhole (race_of c) h → length h < e.bound → Contains found h
   pub within : All (λ (h : List Move). length h ≤ e.bound) found
   pub every : e.is_cut ≡ false → (h : List Move) → IsWhole (race_of c) h → Contains found h
-  pub cut : e.is_cut ≡ true → (e.events ≡ most) ⊎ IsLong c
+  pub cut : e.is_cut ≡ true → IsCut c asked e
   pub out : e.is_cut ≡ true → LeavesOut (race_of c) e.bound found
 
 -- what the steps of a search need, and keep
@@ -63,11 +82,11 @@ pub record IsReady (c : Scene) (s : Search) : Type 0 where
 
 -- Where a search is. All whole histories of less than n moves were found. Of those of n moves some were found, the
 -- classes stand for others, behind which more may come, and the rest are pending.
-pub record IsWithin (c : Scene) (most n : ℕ) (pending : List (List Move)) (s : Search) : Type 0 where
+pub record IsWithin (c : Scene) (asked : Asked) (n : ℕ) (pending : List (List Move)) (s : Search) : Type 0 where
   pub before : List (List Move)
   pub ends : List (List Move)
   pub merged : List Merged
-  pub has : HasFound c most (before ++ ends) s.explored
+  pub has : HasFound c asked (before ++ ends) s.explored
   pub found : AreFound (race_of c) n before
   pub whole : All (IsWhole (race_of c)) ends
   pub stand : StandFor (race_of c) n s.next.items merged
@@ -77,15 +96,16 @@ pub record IsWithin (c : Scene) (most n : ℕ) (pending : List (List Move)) (s :
   pub bound : s.explored.bound ≡ n
 
 -- the pending histories come
-abbrev pub Come : Scene → ℕ → ℕ → List (List Move) → Search → Search → Type 0
-Come c most n hs old new =
-    (pending : List (List Move)) → IsWithin c most n (hs ++ pending) old → IsWithin c most n pending new
+abbrev pub Come : Scene → Asked → ℕ → List (List Move) → Search → Search → Type 0
+Come c asked n hs old new =
+    (pending : List (List Move)) → IsWithin c asked n (hs ++ pending) old → IsWithin c asked n pending new
 
--- they come, or a limit is met, and the search is over
-pub record GoOn (c : Scene) (most n : ℕ) (hs : List (List Move)) (result : Result Bool PlaceFault) (old new : Search) : Type 0 where
-  pub come : result ≡ Ok true → Come c most n hs old new
-  pub cut : result ≡ Ok false → (pending : List (List Move)) → IsWithin c most n (hs ++ pending) old →
-      IsOver c most new.explored
+-- they come, or the search is cut off
+pub record GoOn (c : Scene) (asked : Asked) (n : ℕ) (hs : List (List Move)) (result : Result Bool PlaceFault)
+    (old new : Search) : Type 0 where
+  pub come : result ≡ Ok true → Come c asked n hs old new
+  pub cut : result ≡ Ok false → (pending : List (List Move)) → IsWithin c asked n (hs ++ pending) old →
+      IsOver c asked new.explored
 
 -- the stage, if there is one, is where the moves lead
 abbrev pub LeadsThere : Scene → List Move → Option Stage → Type 0

@@ -1,14 +1,17 @@
 //! What may come of a scenario.
 
-ghost use Rattle.std.specs.Prelude.{ℕ, IfOk, IsErrOf};
+ghost use Rattle.std.specs.Prelude.{ℕ, ◌<◌, ◌^◌, IfOk, IsErrOf};
 ghost use Rattle.chorus_explore.specs.declared.exploration.ExploreFault.TheVariants as ExploreFault;
+ghost use Rattle.law_replay.specs.Shown.{race_of};
+ghost use Rattle.chorus_explore.specs.Events.{CarriesOut};
 ghost use Rattle.chorus_explore.specs.Explored.{IsExploration};
+ghost use Rattle.chorus_explore.specs.Searches.{IsOver};
 ghost use Rattle.chorus_explore.specs.Stages.{MayWear};
 
-use crate::level_search::go_over;
+use crate::level_search::{Asked, go_over};
 use chorus_place::PlaceFault;
 use chorus_scene::Scenario;
-use explore_report::report;
+use explore_report::{Explored, report};
 use std::alloc::Global;
 
 /// Why a scenario was not explored.
@@ -34,13 +37,33 @@ pub fn explore_scenario(
     ensures worn { (clock : ℕ) → IsErrOf result (ExploreFault.Worn clock) →
         MayWear scenario.now clock }
 {
-    let explored = match go_over(alloc, scenario, u64::from(most)) {
-        Ok(explored) => explored,
-        Err(PlaceFault::Memory(_)) => return Err(ExploreFault::Memory),
-        Err(PlaceFault::Worn { clock }) => return Err(ExploreFault::Worn { clock }),
+    let asked = Asked {
+        most: u64::from(most),
+        claims: &[],
+        tells: true,
     };
+    let explored = search(alloc, scenario, &asked)?;
     match report(alloc, &explored) {
         Ok(text) => Ok(text),
         Err(_) => Err(ExploreFault::Memory),
+    }
+}
+
+/// Goes over the schedules of the scenario, for what is asked of it.
+pub(crate) fn search(
+    alloc: Global,
+    scenario: &Scenario,
+    asked: &Asked<'_>,
+) -> Result<Explored, ExploreFault>
+    requires { asked.now.most < 2 ^ 32 }
+    ensures over { IfOk result (λ explored. IsOver scenario.now asked.now explored) }
+    ensures carried { IfOk result (λ explored. CarriesOut (race_of scenario.now) explored) }
+    ensures worn { (clock : ℕ) → IsErrOf result (ExploreFault.Worn clock) →
+        MayWear scenario.now clock }
+{
+    match go_over(alloc, scenario, asked) {
+        Ok(explored) => Ok(explored),
+        Err(PlaceFault::Memory(_)) => Err(ExploreFault::Memory),
+        Err(PlaceFault::Worn { clock }) => Err(ExploreFault::Worn { clock }),
     }
 }

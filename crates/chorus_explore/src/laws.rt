@@ -1,5 +1,6 @@
 //! The laws of what an exploration shows. They speak of the definitions alone and make no call.
 
+ghost use Rattle.chorus_explore.specs.Checked.{FailuresAreReplayed, ReplaysMeetClaims};
 ghost use Rattle.chorus_explore.specs.Shown.{ReplaysAreTold, ReplaysAreWhole, ShownSchedulesAreReplayed, WholeSchedulesLeaveNothing};
 
 /// Behind a history of a scenario behind which nothing may come, no command and no packet is left: a script that has a
@@ -25,4 +26,15 @@ pub fn replays_are_whole()
 /// outcome that it tells.
 pub fn replays_are_told()
     ensures { ReplaysAreTold }
+{}
+
+/// A claim that a check says holds is met at the end of each replay of the scenario, whatever lines stand behind `schedule`,
+/// unless a clock is worn.
+pub fn replays_meet_claims()
+    ensures { ReplaysMeetClaims }
+{}
+
+/// The schedule of a claim that fails is replayed, unless a clock is worn, to the network of a history that does not meet it.
+pub fn failures_are_replayed()
+    ensures { FailuresAreReplayed }
 {}

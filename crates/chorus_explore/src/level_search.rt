@@ -10,17 +10,20 @@ ghost use Rattle.law_explore.specs.Search.{IsHistory};
 ghost use Rattle.law_explore.specs.Races.{replaying};
 ghost use Rattle.law_replay.specs.Shown.{race_of};
 ghost use Rattle.chorus_scene.specs.Scene.{Scene};
+ghost use Rattle.explore_report.specs.Findings.{Counts, HaveSums};
+ghost use Rattle.chorus_explore.specs.declared.level_search.Asked.{Asked};
 ghost use Rattle.chorus_explore.specs.Classes.{AreClasses, IsClassOf, StandFor, StandsFor, moves_from, shown_by};
 ghost use Rattle.chorus_explore.specs.Events.{Carries, CarriesOut, SameEvents};
-ghost use Rattle.chorus_explore.specs.Searches.{Come, GoOn, IsOver, IsReady, IsWithin, LeadsThere};
+ghost use Rattle.chorus_explore.specs.Searches.{Come, GoOn, IsEnough, IsOver, IsReady, IsWithin, LeadsThere};
 ghost use Rattle.chorus_explore.specs.Stages.{AreFresh, AreSpare, IsReached, IsReachedIf, MayWear, may_go, moves_of};
 ghost use Rattle.chorus_explore.specs.Tellings.{tells_of};
 
 use crate::race_sites::Stage;
+use chorus_claims::Claim;
 use chorus_net::Sites;
 use chorus_place::PlaceFault;
 use chorus_scene::{STEPS_LIMIT, Scenario};
-use explore_report::{Explored, Findings};
+use explore_report::{Explored, Findings, have_all_failed, judge_all, not_yet_judged};
 use law_explore::Move;
 use std::alloc::{AllocError, Global};
 use std::mem;
@@ -36,6 +39,17 @@ struct Class {
     sum: u64,
 }
 
+/// What is asked of a search.
+#[derive(Clone, Copy)]
+pub(crate) struct Asked<'a> {
+    /// How many events it may carry out.
+    pub(crate) most: u64,
+    /// The claims that it judges.
+    pub(crate) claims: &'a [Claim],
+    /// Whether it tells the outcomes.
+    pub(crate) tells: bool,
+}
+
 /// The search so far.
 #[derive(Drop)]
 struct Search {
@@ -48,22 +62,26 @@ struct Search {
     spare: Vec<Sites>,
 }
 
-/// Goes over the schedules of the scenario, and carries out so many events at most.
-pub(crate) fn go_over(alloc: Global, scenario: &Scenario, most: u64) -> Result<Explored, PlaceFault>
-    requires { most < 2 ^ 32 }
-    ensures over { IfOk result (λ explored. IsOver scenario.now most explored) }
+/// Goes over the schedules of the scenario, for what is asked.
+pub(crate) fn go_over(
+    alloc: Global,
+    scenario: &Scenario,
+    asked: &Asked<'_>,
+) -> Result<Explored, PlaceFault>
+    requires { asked.now.most < 2 ^ 32 }
+    ensures over { IfOk result (λ explored. IsOver scenario.now asked.now explored) }
     ensures carried { IfOk result (λ explored. CarriesOut (race_of scenario.now) explored) }
     ensures worn { (clock : ℕ) → IsErrOf result (PlaceFault.Worn clock) →
         MayWear scenario.now clock }
 {
-    let mut search = Search::begin(alloc, scenario)?;
+    let mut search = Search::begin(alloc, scenario, asked)?;
     for length in 0..STEPS_LIMIT {
         let level = mem::replace(&mut search.next, Vec::new(alloc));
         if level.is_empty() {
             return Ok(search.explored);
         }
         search.explored.bound = length + 1;
-        if !search.go_on(alloc, scenario, &level, most)? {
+        if !search.go_on(alloc, scenario, &level, asked)? {
             return Ok(search.explored);
         }
     }
@@ -73,17 +91,18 @@ pub(crate) fn go_over(alloc: Global, scenario: &Scenario, most: u64) -> Result<E
 
 impl Search {
     /// Begins the search: nothing was found, and the empty history is come to.
-    fn begin(alloc: Global, scenario: &Scenario) -> Result<Search, PlaceFault>
+    fn begin(alloc: Global, scenario: &Scenario, asked: &Asked<'_>) -> Result<Search, PlaceFault>
         ensures ready { IfOk result (λ search. IsReady scenario.now search) }
-        ensures begun { IfOk result (λ search.
-            (most : ℕ) → IsWithin scenario.now most 0 [] search) }
+        ensures begun { IfOk result (λ search. IsWithin scenario.now asked.now 0 [] search) }
         ensures none { IfOk result (λ search. search.explored.events ≡ 0) }
         ensures worn { (clock : ℕ) → IsErrOf result (PlaceFault.Worn clock) →
             MayWear scenario.now clock }
     {
+        let judged = not_yet_judged(alloc, asked.claims)?;
         let mut search = Search {
             explored: Explored {
                 findings: Findings::new(alloc),
+                judged,
                 histories: 0,
                 events: 0,
                 is_cut: false,
@@ -94,7 +113,7 @@ impl Search {
             spare: Vec::new(alloc),
         };
         let stage = Stage::begin(alloc, scenario, None, 0)?;
-        search.come_to(alloc, scenario, stage, 1)?;
+        search.come_to(alloc, scenario, stage, 1, asked)?;
         Ok(search)
     }
 
@@ -104,15 +123,15 @@ impl Search {
         alloc: Global,
         scenario: &Scenario,
         level: &[Class],
-        most: u64,
+        asked: &Asked<'_>,
     ) -> Result<bool, PlaceFault>
         requires level { AreClasses scenario.now level.now }
         requires ready { IsReady scenario.now self.old }
-        requires most { most < 2 ^ 32 }
+        requires most { asked.now.most < 2 ^ 32 }
         ensures ready { OnOk result (IsReady scenario.now self.new) }
         ensures go_on { (n : ℕ) (ms : List Merged) →
             StandFor (race_of scenario.now) n level.now ms →
-            GoOn scenario.now most (suc n) (next_members (race_of scenario.now) ms)
+            GoOn scenario.now asked.now (suc n) (next_members (race_of scenario.now) ms)
             result self.old self.new }
         ensures carries { Carries (moves_from scenario.now level.now) result
             self.old.explored self.new.explored }
@@ -122,7 +141,7 @@ impl Search {
         let mut last = self.last.take();
         for index in 0..level.len() {
             let kept = take_if(index + 1 == level.len(), &mut last);
-            if !self.go_on_from(alloc, scenario, &level[index], kept, most)? {
+            if !self.go_on_from(alloc, scenario, &level[index], kept, asked)? {
                 return Ok(false);
             }
         }
@@ -137,19 +156,20 @@ impl Search {
         scenario: &Scenario,
         class: &Class,
         kept: Option<Stage>,
-        most: u64,
+        asked: &Asked<'_>,
     ) -> Result<bool, PlaceFault>
         requires history { IsHistory (replaying (race_of scenario.now)) (shown_by class.now) }
         requires kept { IsReachedIf scenario.now kept }
         requires ready { IsReady scenario.now self.old }
-        requires most { most < 2 ^ 32 }
+        requires most { asked.now.most < 2 ^ 32 }
         ensures ready { OnOk result (IsReady scenario.now self.new) }
         ensures go_on { (n : ℕ) (m : Merged) →
             StandsFor (race_of scenario.now) n (shown_by class.now) class.now.number m →
-            GoOn scenario.now most (suc n)
+            GoOn scenario.now asked.now (suc n)
             (going_on (next_behind (race_of scenario.now) (shown_by class.now)) m.members)
             result self.old self.new }
-        ensures carries { Carries (length (next_behind (race_of scenario.now) (shown_by class.now))) result
+        ensures carries { Carries
+            (length (next_behind (race_of scenario.now) (shown_by class.now))) result
             self.old.explored self.new.explored }
         ensures worn { (clock : ℕ) → IsErrOf result (PlaceFault.Worn clock) →
             MayWear scenario.now clock }
@@ -159,7 +179,7 @@ impl Search {
         let moves = stage.next_moves(alloc, scenario)?;
         let mut kept = Some(stage);
         for index in 0..moves.len() {
-            if !self.go_by(alloc, scenario, class, kept.take(), moves[index], most)? {
+            if !self.go_by(alloc, scenario, class, kept.take(), moves[index], asked)? {
                 return Ok(false);
             }
         }
@@ -175,30 +195,41 @@ impl Search {
         class: &Class,
         kept: Option<Stage>,
         mv: Move,
-        most: u64,
+        asked: &Asked<'_>,
     ) -> Result<bool, PlaceFault>
         requires history { IsHistory (replaying (race_of scenario.now)) (shown_by class.now) }
         requires may { may_go scenario.now mv (shown_by class.now) ≡ true }
         requires kept { LeadsThere scenario.now class.now.moves.items kept }
         requires ready { IsReady scenario.now self.old }
-        requires most { most < 2 ^ 32 }
+        requires most { asked.now.most < 2 ^ 32 }
         ensures ready { OnOk result (IsReady scenario.now self.new) }
         ensures go_on { (n : ℕ) (m : Merged) →
             StandsFor (race_of scenario.now) n (shown_by class.now) class.now.number m →
-            GoOn scenario.now most (suc n) (going_by mv m.members) result self.old self.new }
+            GoOn scenario.now asked.now (suc n) (going_by mv m.members) result self.old self.new }
         ensures carries { Carries 1 result self.old.explored self.new.explored }
         ensures worn { (clock : ℕ) → IsErrOf result (PlaceFault.Worn clock) →
             MayWear scenario.now clock }
     {
-        if self.explored.events >= most {
+        if self.is_enough(asked) {
             self.explored.is_cut = true;
             return Ok(false);
         }
         let mut stage = self.stage_there(alloc, scenario, &class.moves, kept)?;
         stage.go(scenario, mv)?;
         self.explored.events += 1;
-        self.come_to(alloc, scenario, stage, class.number)?;
+        self.come_to(alloc, scenario, stage, class.number, asked)?;
         Ok(true)
+    }
+
+    /// Whether the search ends here: as many events were carried out as are allowed, or nothing is left to be found.
+    fn is_enough(&self, asked: &Asked<'_>) -> bool
+        ensures enough { result ≡ true → IsEnough asked.now self.now.explored }
+        ensures goes_on { result ≡ false → self.now.explored.events < asked.now.most }
+    {
+        if self.explored.events >= asked.most {
+            return true;
+        }
+        !asked.tells && have_all_failed(&self.explored.judged)
     }
 
     /// The stage where the moves lead: the one that was kept, or one on which they are done again.
@@ -233,47 +264,52 @@ impl Search {
         scenario: &Scenario,
         mut stage: Stage,
         number: u64,
+        asked: &Asked<'_>,
     ) -> Result<(), PlaceFault>
         requires reached { IsReached scenario.now stage }
         requires ready { IsReady scenario.now self.old }
         ensures ready { OnOk result (IsReady scenario.now self.new) }
-        ensures come { OnOk result ((most n : ℕ) (m : Merged) →
+        ensures come { OnOk result ((n : ℕ) (m : Merged) →
             StandsFor (race_of scenario.now) n (moves_of stage) number m →
-            Come scenario.now most n m.members self.old self.new) }
+            Come scenario.now asked.now n m.members self.old self.new) }
         ensures events { OnOk result (SameEvents self.old.explored self.new.explored) }
         ensures worn { (clock : ℕ) → IsErrOf result (PlaceFault.Worn clock) →
             MayWear scenario.now clock }
     {
         if stage.next_moves(alloc, scenario)?.is_empty() {
-            self.end(alloc, scenario, stage, number)?;
+            self.end(alloc, scenario, stage, number, asked)?;
             Ok(())
         } else {
             self.merge(alloc, scenario, stage, number)
         }
     }
 
-    /// The search counts so many histories, behind which nothing may come.
+    /// The search counts so many histories, behind which nothing may come, and judges the claims by them.
     fn end(
         &mut self,
         alloc: Global,
         scenario: &Scenario,
         stage: Stage,
         number: u64,
+        asked: &Asked<'_>,
     ) -> Result<(), AllocError>
         requires reached { IsReached scenario.now stage }
         requires end { next_behind (race_of scenario.now) (moves_of stage) ≡ [] }
         requires ready { IsReady scenario.now self.old }
         ensures ready { OnOk result (IsReady scenario.now self.new) }
-        ensures come { OnOk result ((most n : ℕ) (m : Merged) →
+        ensures come { OnOk result ((n : ℕ) (m : Merged) →
             StandsFor (race_of scenario.now) n (moves_of stage) number m →
-            Come scenario.now most n m.members self.old self.new) }
+            Come scenario.now asked.now n m.members self.old self.new) }
         ensures events { OnOk result (SameEvents self.old.explored self.new.explored) }
     {
         let moves = Vec::from_slice(alloc, &stage.moves)?;
         let (text, sites) = stage.outcome(alloc)?;
         self.spare.reserve(1)?;
         self.spare.push_reserved(sites);
-        self.explored.findings.add(alloc, text, &moves, number)?;
+        let judged = &mut self.explored.judged;
+        judge_all(alloc, asked.claims, &text, &moves, judged)?;
+        let findings = &mut self.explored.findings;
+        add_if(alloc, asked.tells, text, &moves, number, findings)?;
         self.explored.histories = self.explored.histories.saturating_add(number);
         Ok(())
     }
@@ -290,9 +326,9 @@ impl Search {
         requires goes_on { next_behind (race_of scenario.now) (moves_of stage) ≢ [] }
         requires ready { IsReady scenario.now self.old }
         ensures ready { OnOk result (IsReady scenario.now self.new) }
-        ensures come { OnOk result ((most n : ℕ) (m : Merged) →
+        ensures come { OnOk result ((asked : Asked) (n : ℕ) (m : Merged) →
             StandsFor (race_of scenario.now) n (moves_of stage) number m →
-            Come scenario.now most n m.members self.old self.new) }
+            Come scenario.now asked n m.members self.old self.new) }
         ensures events { OnOk result (SameEvents self.old.explored self.new.explored) }
         ensures worn { (clock : ℕ) → IsErrOf result (PlaceFault.Worn clock) →
             MayWear scenario.now clock }
@@ -333,6 +369,26 @@ impl Search {
         }
         Ok(())
     }
+}
+
+/// Counts so many histories for the outcome to which they come, where outcomes are told.
+fn add_if(
+    alloc: Global,
+    tells: bool,
+    text: Vec<u8>,
+    moves: &[Move],
+    number: u64,
+    findings: &mut Findings,
+) -> Result<(), AllocError>
+    requires { HaveSums findings.old.items.items }
+    ensures counts { OnOk result (tells ≡ true → Counts text.items (reverse moves.now) number
+        findings.old.items.items findings.new.items.items) }
+    ensures sums { OnOk result (HaveSums findings.new.items.items) }
+{
+    if !tells {
+        return Ok(());
+    }
+    findings.add(alloc, text, moves, number)
 }
 
 /// The stage that the search has kept, where it is asked for; it is kept no more then.

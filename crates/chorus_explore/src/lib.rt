@@ -4,6 +4,8 @@
 //! command may be answered, which verdict each message may get, and what each port may hold at the end, each with a
 //! schedule that shows it. [`explore_scenario`] gives that text. A layer above rests on `specs/Ends.antt` and
 //! `specs/Explored.antt`, which say what is promised, and on `specs/Shown.antt`: what is shown is seen in a replay.
+//! [`check_scenario`] asks claims of the ends of those schedules in place of telling what they come to; `specs/Checked.antt` says
+//! what is promised of each claim, and that what holds is so at the end of every replay ([`replays_meet_claims`]).
 //!
 //! Begin with `exploration` and with `level_search`: level by level, with the histories put together that come
 //! alike, as `specs/Searches.antt` says. `race_sites` performs the moves, and `sums` picks whom to compare; `alike_sites`
@@ -11,6 +13,7 @@
 #![tactic(auto)]
 
 mod alike_sites;
+mod checking;
 mod exploration;
 mod exploring;
 mod laws;
@@ -18,9 +21,10 @@ mod level_search;
 mod race_sites;
 mod sums;
 
+pub use checking::check_scenario;
 pub use exploration::{ExploreFault, explore_scenario};
 pub use exploring::explore;
 pub use laws::{
-    replays_are_told, replays_are_whole, shown_schedules_are_replayed,
-    whole_schedules_leave_nothing,
+    failures_are_replayed, replays_are_told, replays_are_whole, replays_meet_claims,
+    shown_schedules_are_replayed, whole_schedules_leave_nothing,
 };

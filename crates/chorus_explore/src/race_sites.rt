@@ -327,7 +327,8 @@ impl Stage {
         ensures moves { self.new.moves ≡ self.old.moves }
         ensures items { OnOk result (moves.new.items ≡ moves.old.items
             ++ coming scenario.now (moves_of self.old)
-            (links_between (place_numbers scenario.now.layout) (place_numbers scenario.now.layout))) }
+            (links_between (place_numbers scenario.now.layout)
+            (place_numbers scenario.now.layout))) }
     {
         for index in 0..scenario.layout().places() {
             self.add_links(scenario, index + 1, moves)?;
@@ -436,7 +437,8 @@ fn act_at(sites: &mut Sites, seat: u32, command: &Command, place: u16) -> Result
     ensures index { IfOk result (λ at. at ≡ length (place_of place (net sites.old)).journal) }
     ensures layout { sites.new.layout ≡ sites.old.layout }
     ensures worn { (clock : ℕ) → IsErrOf result (PlaceFault.Worn clock) →
-        (CLOCK_LIMIT ≤ clock) × (compared_by (Acting seat command.now) (net sites.old) ≡ Some clock) }
+        (CLOCK_LIMIT ≤ clock)
+        × (compared_by (Acting seat command.now) (net sites.old) ≡ Some clock) }
 {
     let at = sites.journal(place).len();
     sites.act(seat, command.copied()?)?;

@@ -3,10 +3,10 @@ use Rattle.std.specs.Prelude.{ℕ, ◌+◌, ◌*◌, ◌-◌, ◌/◌, ◌%◌, 
 use Rattle.std.specs.List.{flat_map}
 use Rattle.chorus_lines.specs.Text.{each_byte, is_plain}
 
--- a body begins with = (61), or in version 2 with x (120)
+-- a body begins with = (61), or from version 2 on with x (120)
 abbrev pub begins_a_body : ℕ → List ℕ → Bool
 begins_a_body version [] = false
-begins_a_body version (c ∷ cs) = (c == 61) || ((version == 2) && (c == 120))
+begins_a_body version (c ∷ cs) = (c == 61) || (nat_le 2 version && (c == 120))
 
 -- the digits 0 to 9 and a to f
 abbrev pub is_hex : ℕ → Bool

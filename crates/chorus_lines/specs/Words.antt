@@ -1,5 +1,5 @@
 -- The words that lines begin with, and where they may stand.
-use Rattle.std.specs.Prelude.{ℕ, Bool, true, false, List, Option, Some, None, option_map, ◌==◌, if◌then◌else◌, codes}
+use Rattle.std.specs.Prelude.{ℕ, Bool, true, false, List, Option, Some, None, option_map, nat_le, if◌then◌else◌, codes}
 use Rattle.std.specs.Str.{bytes_eq}
 use Rattle.chorus_lines.specs.declared.word.Target.TheVariants as targets
 use Rattle.chorus_lines.specs.declared.word.Verb.{Verb}
@@ -9,7 +9,7 @@ use Rattle.chorus_lines.specs.declared.word.Word.TheVariants as words
 use Rattle.chorus_lines.specs.declared.word.Section.{Section}
 use Rattle.chorus_lines.specs.declared.word.Section.TheVariants as sections
 
--- the word of a command; delete is one in version 2 alone
+-- the word of a command; delete is one from version 2 on
 unfoldable pub verb_of : ℕ → List ℕ → Option Verb
 verb_of version text =
     if bytes_eq text (codes "send") then Some (verbs.Send targets.Port)
@@ -26,9 +26,10 @@ verb_of version text =
     else if bytes_eq text (codes "newgroup") then Some verbs.NewGroup
     else if bytes_eq text (codes "join") then Some verbs.Join
     else if bytes_eq text (codes "leave") then Some verbs.Leave
-    else if bytes_eq text (codes "delete") then (if version == 2 then Some verbs.Delete else None)
+    else if bytes_eq text (codes "delete") then (if nat_le 2 version then Some verbs.Delete else None)
     else None
 
+-- the word of a line; claim is one from version 3 on
 unfoldable pub word_of : ℕ → List ℕ → Option Word
 word_of version text =
     if bytes_eq text (codes "chorus") then Some words.Chorus
@@ -42,6 +43,7 @@ word_of version text =
     else if bytes_eq text (codes "deliver") then Some words.Deliver
     else if bytes_eq text (codes "drain") then Some words.Drain
     else if bytes_eq text (codes "end") then Some words.End
+    else if bytes_eq text (codes "claim") then (if nat_le 3 version then Some words.Claim else None)
     else option_map words.Command (verb_of version text)
 
 -- the words that may stand where a text has come so far
@@ -51,10 +53,14 @@ may_stand sections.Setup words.Port = true
 may_stand sections.Setup words.Group = true
 may_stand sections.Setup words.Member = true
 may_stand sections.Setup words.Script = true
+may_stand sections.Setup words.Claim = true
 may_stand sections.Setup words.Schedule = true
 may_stand sections.Scripts words.Script = true
 may_stand sections.Scripts (words.Command verb) = true
+may_stand sections.Scripts words.Claim = true
 may_stand sections.Scripts words.Schedule = true
+may_stand sections.Claims words.Claim = true
+may_stand sections.Claims words.Schedule = true
 may_stand sections.Schedule words.Step = true
 may_stand sections.Schedule words.Deliver = true
 may_stand sections.Schedule words.Drain = true

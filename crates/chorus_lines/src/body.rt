@@ -15,7 +15,7 @@ pub fn begins_a_body(version: u8, text: &[u8]) -> bool
 {
     match text {
         [] => false,
-        [mark, ..] => *mark == b'=' || (version == 2 && *mark == b'x'),
+        [mark, ..] => *mark == b'=' || (version >= 2 && *mark == b'x'),
     }
 }
 

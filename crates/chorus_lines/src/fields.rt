@@ -61,15 +61,15 @@ pub fn three(rest: Option<&[u8]>) -> Option<(&[u8], &[u8], &[u8])>
     }
 }
 
-/// The body alone: all that stands behind the word of a line.
-pub fn body_alone(rest: Option<&[u8]>) -> Option<&[u8]>
+/// All that stands behind the word of a line, as one field: a body, or a claim.
+pub fn all(rest: Option<&[u8]>) -> Option<&[u8]>
     ensures { MatchOption result
         (are_fields 1 (fields 0 (option_copied rest.entry)) ≡ false)
         (λ a. (fields 0 (option_copied rest.entry) ≡ a.now ∷ [])
         × (are_fields 1 (a.now ∷ []) ≡ true)) }
 {
-    let body = rest?;
-    if body.is_empty() { None } else { Some(body) }
+    let all = rest?;
+    if all.is_empty() { None } else { Some(all) }
 }
 
 /// One field behind the word of a line, and the body behind it.

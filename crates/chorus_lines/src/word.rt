@@ -62,7 +62,9 @@ pub enum Word {
     Script,
     /// The word of a command.
     Command(Verb),
-    /// `schedule`: ends the scripts.
+    /// `claim`: says what is to be checked.
+    Claim,
+    /// `schedule`: ends the scripts and the claims.
     Schedule,
     /// `step`: the next command of a script is done.
     Step,
@@ -85,6 +87,8 @@ pub enum Section {
     Setup,
     /// In the scripts.
     Scripts,
+    /// In the claims.
+    Claims,
     /// In the schedule.
     Schedule,
     /// Behind the end.
@@ -96,13 +100,15 @@ pub enum Section {
 pub enum Reason {
     /// It is the first that says something, and is not the head.
     Header,
-    /// Its word is none of the version, or its fields are too few, too many, one of them empty, or a body without its mark.
+    /// Its word is none of the version, or its fields are too few, too many, one of them empty, or a body without its mark; or
+    /// what stands behind `claim` is no claim.
     Word,
     /// A decimal, a name or the digits of a body are not spelled as said, or a name is of another kind.
     Number,
-    /// It names a site or an actor that there is not, or in a `member` line what no earlier line made.
+    /// It names a site or an actor that there is not, in a `member` line what no earlier line made, or in a claim a script or a
+    /// command that there is not.
     Unknown,
-    /// A setup line makes what an earlier one made, or a member is one already.
+    /// A setup line makes what an earlier one made, a member is one already, or an earlier line has the same claim.
     Twice,
     /// A number or a count is beyond its limit.
     Limit,
@@ -116,7 +122,7 @@ pub enum Reason {
     Schedule,
 }
 
-/// The word that a line begins with. None exactly where it is no word of the version.
+/// The word that a line begins with. None exactly where it is no word of the version; `claim` is one from version 3 on.
 #[tactic(auto, unfolding(crate::specs::Words::word_of))]
 pub fn word_of(version: u8, text: &[u8]) -> Option<Word>
     ensures { result ≡ word_of version text.now }
@@ -143,12 +149,18 @@ pub fn word_of(version: u8, text: &[u8]) -> Option<Word>
         Some(Word::Drain)
     } else if text == b"end".as_slice() {
         Some(Word::End)
+    } else if text == b"claim".as_slice() {
+        if version >= 3 {
+            Some(Word::Claim)
+        } else {
+            None
+        }
     } else {
         Some(Word::Command(verb_of(version, text)?))
     }
 }
 
-/// The word of a command. `delete` is one in version 2 alone.
+/// The word of a command. `delete` is one from version 2 on.
 #[tactic(auto, unfolding(crate::specs::Words::verb_of))]
 fn verb_of(version: u8, text: &[u8]) -> Option<Verb>
     ensures { result ≡ verb_of version text.now }
@@ -182,7 +194,7 @@ fn verb_of(version: u8, text: &[u8]) -> Option<Verb>
     } else if text == b"leave".as_slice() {
         Some(Verb::Leave)
     } else if text == b"delete".as_slice() {
-        if version == 2 {
+        if version >= 2 {
             Some(Verb::Delete)
         } else {
             None
@@ -201,9 +213,13 @@ pub fn may_stand(section: Section, word: Word) -> bool
         Section::Sites => matches!(word, Word::Sites),
         Section::Setup => matches!(
             word,
-            Word::Port | Word::Group | Word::Member | Word::Script | Word::Schedule
+            Word::Port | Word::Group | Word::Member | Word::Script | Word::Claim | Word::Schedule
         ),
-        Section::Scripts => matches!(word, Word::Script | Word::Command(_) | Word::Schedule),
+        Section::Scripts => matches!(
+            word,
+            Word::Script | Word::Command(_) | Word::Claim | Word::Schedule
+        ),
+        Section::Claims => matches!(word, Word::Claim | Word::Schedule),
         Section::Schedule => matches!(word, Word::Step | Word::Deliver | Word::Drain | Word::End),
     }
 }

@@ -11,7 +11,7 @@ use Rattle.chorus_entry.specs.declared.command.Command.{Command}
 use Rattle.chorus_scene.specs.declared.scenario.SetupLine.{SetupLine}
 use Rattle.chorus_scene.specs.Scene.{Scene}
 use Rattle.chorus_scene.specs.Making.{makes, name_said, names_said}
-use Rattle.chorus_scene.specs.Print.{command_text, version_text, sites_text, said_text, setup_texts, said_texts, script_texts, step_text, joined, printed, ended, all_ended}
+use Rattle.chorus_scene.specs.Print.{command_text, version_text, sites_text, said_text, setup_texts, said_texts, script_texts, claim_text, step_text, joined, printed, ended, all_ended}
 
 -- a line more
 ended_more : (xs : List (List ℕ)) (y : List ℕ) → all_ended (xs ++ y ∷ []) ≡ all_ended xs ++ (y ++ 10 ∷ [])
@@ -59,21 +59,23 @@ joined_last (x ∷ []) last = sym (append_assoc x (10 ∷ []) last) ∙ ap (λ t
 joined_last (x ∷ y ∷ xs) last =
     ap (λ t. x ++ 10 ∷ t) (joined_last (y ∷ xs) last) ∙ sym (append_assoc x (10 ∷ all_ended (y ∷ xs)) last) ∙ ap (λ t. t ++ last) (sym (append_assoc x (10 ∷ []) (all_ended (y ∷ xs))))
 
-regroup : (s v u c d e : List ℕ) → ((((s ++ v) ++ u) ++ c) ++ d) ++ e ≡ s ++ (((v ++ (u ++ c)) ++ d) ++ e)
-regroup s v u c d e = simp append_assoc
+regroup : (s v u c k d e : List ℕ) → (((((s ++ v) ++ u) ++ c) ++ k) ++ d) ++ e ≡ s ++ ((((v ++ (u ++ c)) ++ k) ++ d) ++ e)
+regroup s v u c k d e = simp append_assoc
 
 -- the text of a scenario, part by part
 pub printed_parts : (c : Scene) (start out : List ℕ) (names : List Ui) → names ≡ names_said c.layout [] c.setup
-    → out ≡ (((start ++ all_ended (version_text c.version ∷ sites_text c.sites ∷ [])) ++ all_ended (said_texts names c.setup)) ++ all_ended (flat_map script_texts c.scripts)) ++ all_ended (codes "schedule" ∷ map step_text c.schedule)
+    → out ≡ ((((start ++ all_ended (version_text c.version ∷ sites_text c.sites ∷ [])) ++ all_ended (said_texts names c.setup)) ++ all_ended (flat_map script_texts c.scripts)) ++ all_ended (map claim_text c.claims)) ++ all_ended (codes "schedule" ∷ map step_text c.schedule)
     → out ++ codes "end" ≡ start ++ printed c
 printed_parts c start out names is parts =
     let head = version_text c.version ∷ sites_text c.sites ∷ [] in
     let setup = setup_texts c.layout [] c.setup in
     let scripts = flat_map script_texts c.scripts in
+    let claims = map claim_text c.claims in
     let steps = codes "schedule" ∷ map step_text c.schedule in
     let said : said_texts names c.setup ≡ setup = ap (λ ns. said_texts ns c.setup) is ∙ texts_said c.layout [] c.setup in
-    ap (λ t. t ++ codes "end") (parts ∙ ap (λ ts. (((start ++ all_ended head) ++ all_ended ts) ++ all_ended scripts) ++ all_ended steps) said)
-    ∙ regroup start (all_ended head) (all_ended setup) (all_ended scripts) (all_ended steps) (codes "end")
-    ∙ ap (λ t. start ++ t) (sym (joined_last ((head ++ (setup ++ scripts)) ++ steps) (codes "end")
-    ∙ ap (λ t. t ++ codes "end") (flat_map-append ended (head ++ (setup ++ scripts)) steps
-    ∙ ap (λ t. t ++ all_ended steps) (flat_map-append ended head (setup ++ scripts) ∙ ap (λ t. all_ended head ++ t) (flat_map-append ended setup scripts)))))
+    ap (λ t. t ++ codes "end") (parts ∙ ap (λ ts. ((((start ++ all_ended head) ++ all_ended ts) ++ all_ended scripts) ++ all_ended claims) ++ all_ended steps) said)
+    ∙ regroup start (all_ended head) (all_ended setup) (all_ended scripts) (all_ended claims) (all_ended steps) (codes "end")
+    ∙ ap (λ t. start ++ t) (sym (joined_last (((head ++ (setup ++ scripts)) ++ claims) ++ steps) (codes "end")
+    ∙ ap (λ t. t ++ codes "end") (flat_map-append ended ((head ++ (setup ++ scripts)) ++ claims) steps
+    ∙ ap (λ t. t ++ all_ended steps) (flat_map-append ended (head ++ (setup ++ scripts)) claims
+    ∙ ap (λ t. t ++ all_ended claims) (flat_map-append ended head (setup ++ scripts) ∙ ap (λ t. all_ended head ++ t) (flat_map-append ended setup scripts))))))

@@ -4,11 +4,11 @@ ghost use Rattle.std.specs.Prelude.{◌≡◌, ◌<◌, ℕ, List, [], ◌∷◌
 ghost use Rattle.std.specs.List.{flat_map};
 ghost use Rattle.chorus_ui.specs.Text.{name_text};
 ghost use Rattle.chorus_lines.specs.Body.{hex_digit, hex_text, body_text};
-ghost use Rattle.chorus_scene.specs.Print.{behind, dest_text, command_text, version_text, sites_text, said_text, said_texts, script_texts, step_text, all_ended, printed, IsReadAgain};
+ghost use Rattle.chorus_scene.specs.Print.{behind, dest_text, command_text, version_text, sites_text, said_text, said_texts, script_texts, claim_text, step_text, all_ended, printed, IsReadAgain};
 
 use chorus_entry::{Command, Dest};
 use chorus_lines::is_text;
-use chorus_scene::{Scenario, Script, SetupLine, Step};
+use chorus_scene::{ClaimText, Scenario, Script, SetupLine, Step};
 use chorus_ui::{Ui, push_decimal};
 use std::alloc::AllocError;
 
@@ -40,6 +40,7 @@ fn push_scenario(scenario: &Scenario, out: &mut Vec<u8>) -> Result<(), AllocErro
     push_head(scenario.version(), scenario.sites(), out)?;
     push_setup(scenario.setup(), names, out)?;
     push_scripts(scenario.scripts(), out)?;
+    push_claims(scenario.claims(), out)?;
     push_schedule(scenario.schedule(), out)?;
     out.extend_from_slice(b"end")?;
     Ok(())
@@ -162,6 +163,20 @@ fn push_dest(dest: &Dest, out: &mut Vec<u8>) -> Result<(), AllocError>
             push_number(u64::from(*site), out)
         }
     }
+}
+
+/// Appends the lines of the claims, each as it is spelled.
+fn push_claims(claims: &[ClaimText], out: &mut Vec<u8>) -> Result<(), AllocError>
+    ensures ok { OnOk result
+        (out.new.items ≡ out.old.items ++ all_ended (map claim_text claims.now)) }
+    ensures err { OnErr result (take (length out.old.items) out.new.items ≡ out.old.items) }
+{
+    for claim in claims {
+        out.extend_from_slice(b"claim ")?;
+        out.extend_from_slice(claim.text())?;
+        end_line(out)?;
+    }
+    Ok(())
 }
 
 /// Appends the line `schedule`, and behind it a line for each step of the scenario.

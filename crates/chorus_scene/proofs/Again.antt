@@ -21,8 +21,8 @@ use Rattle.chorus_lines.specs.declared.word.Reason.TheVariants as reasons
 use Rattle.chorus_lines.specs.Text.{are_fields, some_empty, each_byte, is_plain, number_in}
 use Rattle.chorus_lines.specs.Body.{body_in, body_text, begins_a_body}
 use Rattle.chorus_scene.specs.Scene.{Scene}
-use Rattle.chorus_scene.specs.Line.{Line, SitesLine, PortLine, GroupLine, MemberLine, ScriptLine, CommandLine, ScheduleLine, StepLine, EndLine, wants, has_body, is_misshapen, field, with_two, with_three, name_in, target_kind, dest_of, line_of}
-use Rattle.chorus_scene.specs.Grammar.{judge_fields, judge_line, unless, known, is_beyond, names_unknown, repeats, is_not_given, is_unscheduled, is_huge, is_no_capacity, most_sites, most_bytes, last_is_full, command_is_beyond}
+use Rattle.chorus_scene.specs.Line.{Line, SitesLine, PortLine, GroupLine, MemberLine, ScriptLine, CommandLine, ClaimLine, ScheduleLine, StepLine, EndLine, wants, has_body, is_misshapen, field, with_two, with_three, name_in, target_kind, dest_of, line_of}
+use Rattle.chorus_scene.specs.Grammar.{judge_fields, judge_line, unless, known, is_no_claim, is_misspelled, is_beyond, names_unknown, repeats, is_not_given, is_unscheduled, is_huge, is_no_capacity, most_sites, most_bytes, last_is_full, command_is_beyond}
 use Rattle.chorus_scene.specs.Print.{behind, command_text, text_of}
 use Rattle.chorus_scene.proofs.Spelled.{both, spelled_name}
 use Rattle.chorus_lines.proofs.Numbers.{spelled_number}
@@ -54,17 +54,45 @@ inv_three f (Some a) (Some b) None x h = absurd cc
 inv_three f (Some a) None q x h = absurd cc
 inv_three f None p q x h = absurd cc
 
-five : (a b c d e : Bool) (q r t u v : Reason) (y x : Line) → unless a q (unless b r (unless c t (unless d u (unless e v (Ok y))))) ≡ Ok x → y ≡ x
-five true b c d e q r t u v y x h = absurd cc
-five false true c d e q r t u v y x h = absurd cc
-five false false true d e q r t u v y x h = absurd cc
-five false false false true e q r t u v y x h = absurd cc
-five false false false false true q r t u v y x h = absurd cc
-five false false false false false q r t u v y x h = cc
+pub or_second : (a b : Bool) → (a || b) ≡ false → b ≡ false
+or_second false b h = h
+or_second true b h = absurd cc
 
--- a line that passes tests 7 to 11 is judged to be itself
-judged_itself : (c : Scene) (y x : Line) → judge_line c y ≡ Ok x → y ≡ x
-judged_itself c y x h = five (is_beyond c y) (names_unknown c y) (repeats c y) (is_not_given c y) (is_unscheduled c y) reasons.Limit reasons.Unknown reasons.Twice reasons.Order reasons.Schedule y x h
+pub or_first : (a b : Bool) → (a || b) ≡ false → a ≡ false
+or_first false b h = refl
+or_first true b h = absurd cc
+
+-- none of tests 5 to 11 fails, of which 5 and 6 are those of a claim
+pub record Clear (c : Scene) (x : Line) : Type 0 where
+  pub claim : is_no_claim c x ≡ false
+  pub spelled : is_misspelled c x ≡ false
+  pub limit : is_beyond c x ≡ false
+  pub unknown : names_unknown c x ≡ false
+  pub twice : repeats c x ≡ false
+  pub order : is_not_given c x ≡ false
+  pub schedule : is_unscheduled c x ≡ false
+
+-- a line that passes is clear, and is judged to be itself
+judged_as : (c : Scene) (y x : Line) → judge_line c y ≡ Ok x → Clear c y × (y ≡ x)
+judged_as c y x h =
+    let r6 : Result Line Reason = unless (is_unscheduled c y) reasons.Schedule (Ok y) in
+    let r5 : Result Line Reason = unless (is_not_given c y) reasons.Order r6 in
+    let r4 : Result Line Reason = unless (repeats c y) reasons.Twice r5 in
+    let r3 : Result Line Reason = unless (names_unknown c y) reasons.Unknown r4 in
+    let r2 : Result Line Reason = unless (is_beyond c y) reasons.Limit r3 in
+    let r1 : Result Line Reason = unless (is_misspelled c y) reasons.Number r2 in
+    let h0 = inv_unless (is_no_claim c y) reasons.Word r1 x h in
+    let h1 = inv_unless (is_misspelled c y) reasons.Number r2 x h0.1 in
+    let h2 = inv_unless (is_beyond c y) reasons.Limit r3 x h1.1 in
+    let h3 = inv_unless (names_unknown c y) reasons.Unknown r4 x h2.1 in
+    let h4 = inv_unless (repeats c y) reasons.Twice r5 x h3.1 in
+    let h5 = inv_unless (is_not_given c y) reasons.Order r6 x h4.1 in
+    let h6 = inv_unless (is_unscheduled c y) reasons.Schedule (Ok y) x h5.1 in
+    let same : y ≡ x = let k = h6.1 in cc in
+    (record { claim = h0.0; spelled = h1.0; limit = h2.0; unknown = h3.0; twice = h4.0; order = h5.0; schedule = h6.0 }, same)
+
+pub clear : (c : Scene) (x : Line) → judge_line c x ≡ Ok x → Clear c x
+clear c x judged = (judged_as c x x judged).0
 
 -- what an Ok says of all tests on fields
 pub record Passes (c : Scene) (w : Word) (fs : List (List ℕ)) (x : Line) : Type 0 where
@@ -76,14 +104,18 @@ pub inv_fields : (c : Scene) (w : Word) (fs : List (List ℕ)) (x : Line) → ju
 inv_fields c w fs x h =
     let a = inv_unless (is_misshapen c.version w fs) reasons.Word (known (line_of w fs) reasons.Number (judge_line c)) x h in
     let b = inv_known (line_of w fs) reasons.Number (judge_line c) x a.1 in
-    let same = judged_itself c b.0 x b.2 in
+    let same = (judged_as c b.0 x b.2).1 in
     record { shape = a.0; line = b.1 ∙ ap Some same; judged = subst (λ (y : Line). judge_line c y ≡ Ok x) same b.2 }
 
 pub fields_again : (c : Scene) (w : Word) (fs : List (List ℕ)) (x : Line) → Passes c w fs x → judge_fields c w fs ≡ Ok x
 fields_again c w fs x p = let a = p.shape in let b = p.line in rw (a, b) p.judged
 
 pub not_beyond : (c : Scene) (x : Line) → judge_line c x ≡ Ok x → is_beyond c x ≡ false
-not_beyond c x h = (inv_unless (is_beyond c x) reasons.Limit (unless (names_unknown c x) reasons.Unknown (unless (repeats c x) reasons.Twice (unless (is_not_given c x) reasons.Order (unless (is_unscheduled c x) reasons.Schedule (Ok x))))) x h).0
+not_beyond c x h = (clear c x h).limit
+
+-- a command was read, so the last script has room for it
+pub room_of : (c : Scene) (w : Word) (fs : List (List ℕ)) (command : Command) → judge_fields c w fs ≡ Ok (CommandLine command) → last_is_full c ≡ false
+room_of c w fs command h = or_first (last_is_full c) (command_is_beyond c.version command) (not_beyond c (CommandLine command) (inv_fields c w fs (CommandLine command) h).judged)
 
 -- how many fields there are
 shape_parts : (a h b : Bool) → (not a || (h && not b)) ≡ false → (a ≡ true) × (h ≡ true → b ≡ true)
@@ -212,14 +244,6 @@ shape_three version (y ∷ ys) (z ∷ zs) t [] e h = absurd cc
 shape_three version (y ∷ ys) (z ∷ zs) t (x ∷ xs) e h = rw h refl
 
 -- numbers within their limits
-pub or_second : (a b : Bool) → (a || b) ≡ false → b ≡ false
-or_second false b h = h
-or_second true b h = absurd cc
-
-pub or_first : (a b : Bool) → (a || b) ≡ false → a ≡ false
-or_first false b h = refl
-or_first true b h = absurd cc
-
 not_huge : (n : ℕ) → is_huge n ≡ false → n < 2 ^ 64
 not_huge n h = grind (arith, nat_tests)
 
@@ -284,6 +308,9 @@ module _ (c : Scene) (x : Line) where
   script_is a p =
       let q = inv_map ScriptLine (name_in kinds.Actor a) x p.line in
       sym (ap text_of q.2) ∙ same_one (codes "script") (name_text q.0) a (spelled_name kinds.Actor a q.0 q.1)
+
+  claim_is : (a : List ℕ) → Passes c words.Claim (a ∷ []) x → text_of x ≡ codes "claim" ++ behind (a ∷ [])
+  claim_is a p = let e : ClaimLine a ≡ x = (let k : ◌≡◌ {A = Option Line} (Some (ClaimLine a)) (Some x) = p.line in cc) in sym (ap text_of e)
 
   step_is : (a : List ℕ) → Passes c words.Step (a ∷ []) x → text_of x ≡ codes "step" ++ behind (a ∷ [])
   step_is a p =
@@ -446,6 +473,7 @@ module _ (c : Scene) (x : Line) where
   again words.Member fs p plain = two words.Member refl fs p (λ a b q k. same_fields words.Member (a ∷ b ∷ []) refl q k (member_is a b q)) plain
   again words.Script fs p plain = one words.Script refl fs p (λ a q k. same_fields words.Script (a ∷ []) refl q k (script_is a q)) plain
   again (words.Command verb) fs p plain = command_again verb fs p plain
+  again words.Claim fs p plain = one words.Claim refl fs p (λ a q k. same_fields words.Claim (a ∷ []) refl q k (claim_is a q)) plain
   again words.Schedule fs p plain = none words.Schedule refl refl fs p (bare_is words.Schedule ScheduleLine p.line refl) plain
   again words.Step fs p plain = one words.Step refl fs p (λ a q k. same_fields words.Step (a ∷ []) refl q k (step_is a q)) plain
   again words.Deliver fs p plain = two words.Deliver refl fs p (λ a b q k. same_fields words.Deliver (a ∷ b ∷ []) refl q k (deliver_is a b q)) plain

@@ -1,6 +1,6 @@
 -- A body that was read, printed in the one way, is read as the same.
 use Rattle.std.proofs.Common.{◌≡◌, ℕ, ◌+◌, ◌*◌, ◌/◌, ◌%◌, ◌<◌, Bool, true, false, ◌&&◌, ◌||◌, cond, eqb, List, [], ◌∷◌, length, Option, Some, None, refl, sym, ap, ◌∙◌, subst, arith, ◌≤◌}
-use Rattle.std.specs.Prelude.{nat_lt}
+use Rattle.std.specs.Prelude.{nat_lt, nat_le}
 use Rattle.std.proofs.lemmas.Bool.Decides.{nat_tests}
 use Rattle.chorus_lines.specs.Text.{each_byte, is_plain}
 use Rattle.chorus_lines.specs.Body.{pairs, is_hex, hex_value, is_hex_text, bytes_of_hex, body_in, begins_a_body, hex_digit, hex_text, body_text}
@@ -102,7 +102,7 @@ plain_again : (version : ℕ) (text bytes : List ℕ) → each_byte is_plain byt
 unfolding body_in each_byte
 plain_again version text bytes h short = record { begins = rw h refl; again = rw h refl; plain = rw (h, h) refl; short = rw h (omega arith) }
 
-hex_by : (version : ℕ) (text bytes : List ℕ) (b : Bool) → each_byte is_plain bytes ≡ b → version ≡ 2 → each_byte is_byte bytes ≡ true → 2 * length bytes + 1 ≤ length text → Reprints version text bytes
+hex_by : (version : ℕ) (text bytes : List ℕ) (b : Bool) → each_byte is_plain bytes ≡ b → nat_le 2 version ≡ true → each_byte is_byte bytes ≡ true → 2 * length bytes + 1 ≤ length text → Reprints version text bytes
 unfolding body_in each_byte
 hex_by version text bytes true e two small short = plain_again version text bytes e (omega arith)
 hex_by version text bytes false e two small short =
@@ -112,7 +112,7 @@ hex_by version text bytes false e two small short =
     record { begins = rw (e, two) refl; again = rw (e, r) refl; plain = rw (e, k) refl; short = rw e (omega arith) }
 
 -- an x body has two digits for each byte
-digits_again : (version : ℕ) (mark : ℕ) (cs bytes : List ℕ) → version ≡ 2 → bytes_of_hex cs ≡ Some bytes → Reprints version (mark ∷ cs) bytes
+digits_again : (version : ℕ) (mark : ℕ) (cs bytes : List ℕ) → nat_le 2 version ≡ true → bytes_of_hex cs ≡ Some bytes → Reprints version (mark ∷ cs) bytes
 digits_again version mark cs bytes two h =
     let p = inv_choice (is_hex_text cs) (pairs cs) bytes h in
     let q = both (eqb (length cs % 2) 0) (each_byte is_hex cs) p.0 in
@@ -121,14 +121,14 @@ digits_again version mark cs bytes two h =
     let small : each_byte is_byte bytes ≡ true = subst (λ xs. each_byte is_byte xs ≡ true) p.1 (pairs_small cs q.1) in
     hex_by version (mark ∷ cs) bytes (each_byte is_plain bytes) refl two small (omega arith)
 
-by_mark : (version c : ℕ) (cs bytes : List ℕ) (b : Bool) → eqb c 61 ≡ b → each_byte is_plain cs ≡ true → (eqb c 61 || (eqb version 2 && eqb c 120)) ≡ true → cond (eqb c 61) (Some cs) (bytes_of_hex cs) ≡ Some bytes → Reprints version (c ∷ cs) bytes
+by_mark : (version c : ℕ) (cs bytes : List ℕ) (b : Bool) → eqb c 61 ≡ b → each_byte is_plain cs ≡ true → (eqb c 61 || (nat_le 2 version && eqb c 120)) ≡ true → cond (eqb c 61) (Some cs) (bytes_of_hex cs) ≡ Some bytes → Reprints version (c ∷ cs) bytes
 by_mark version c cs bytes true e plain begins h =
     let g : ◌≡◌ {A = Option (List ℕ)} (Some cs) (Some bytes) = rw e at h in
     let same : cs ≡ bytes = cc in
     plain_again version (c ∷ cs) bytes (subst (λ xs. each_byte is_plain xs ≡ true) same plain) (omega (arith, ap length same))
 by_mark version c cs bytes false e plain begins h =
     let g : bytes_of_hex cs ≡ Some bytes = rw e at h in
-    let two : version ≡ 2 = grind (arith, nat_tests) in
+    let two : nat_le 2 version ≡ true = grind (arith, nat_tests) in
     digits_again version c cs bytes two g
 
 pub reprints : (version : ℕ) (text bytes : List ℕ) → each_byte is_plain text ≡ true → begins_a_body version text ≡ true → body_in text ≡ Some bytes → Reprints version text bytes

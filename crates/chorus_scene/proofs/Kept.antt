@@ -1,7 +1,10 @@
 -- A scenario that was read keeps the limits.
-use Rattle.std.proofs.Common.{◌≡◌, ℕ, zero, suc, ◌-◌, ◌<◌, ◌≤◌, Bool, true, ◌&&◌, List, [], ◌∷◌, ◌++◌, ◌⊎◌, inl, inr, length, set, refl, sym, arith, subst, length-append, length-set, append_assoc}
+use Rattle.std.proofs.Common.{◌≡◌, ℕ, zero, suc, ◌-◌, ◌<◌, ◌≤◌, Bool, true, false, not, ◌&&◌, ◌||◌, List, [], ◌∷◌, ◌++◌, ◌⊎◌, inl, inr, length, set, refl, sym, ◌∙◌, arith, subst, length-append, length-set, append_assoc}
 use Rattle.std.specs.Prelude.{nat_le}
 use Rattle.std.specs.List.{list_all}
+use Rattle.std.specs.Str.{bytes_eq}
+use Rattle.std.proofs.lemmas.List.Folds.{list_any-append}
+use Rattle.std.proofs.lemmas.Slice.Eq.{bytes_eq-Decides}
 use Rattle.std.proofs.lemmas.Bool.Decides.{nat_tests}
 use Rattle.std.proofs.lemmas.List.{append-nil}
 use Rattle.chorus_ui.specs.declared.layout.Layout.{Layout}
@@ -13,15 +16,17 @@ use Rattle.chorus_lines.specs.declared.word.Section.{Section}
 use Rattle.chorus_lines.specs.declared.word.Section.TheVariants as sections
 use Rattle.chorus_lines.specs.Text.{lines, is_text, is_skipped}
 use Rattle.chorus_scene.specs.Scene.{Scene, Script}
-use Rattle.chorus_scene.specs.Line.{Line, VersionLine, SitesLine, PortLine, GroupLine, MemberLine, ScriptLine, CommandLine, ScheduleLine, StepLine, EndLine}
-use Rattle.chorus_scene.specs.Grammar.{State, opening, after, with_command, last_script, no_script}
+use Rattle.chorus_scene.specs.Line.{Line, VersionLine, SitesLine, PortLine, GroupLine, MemberLine, ScriptLine, CommandLine, ClaimLine, ScheduleLine, StepLine, EndLine}
+use Rattle.chorus_scene.specs.Grammar.{State, opening, after, with_command, last_script, no_script, is_claimed}
 use Rattle.chorus_scene.specs.Laws.{Pass}
-use Rattle.chorus_scene.specs.Limits.{is_actor_of, command_keeps, script_keeps, setup_line_keeps, setup_keeps, step_keeps, schedule_keeps, Keeps, ReadKeeps}
-use Rattle.chorus_scene.proofs.Again.{and_join}
+use Rattle.chorus_scene.specs.Limits.{is_actor_of, command_keeps, script_keeps, setup_line_keeps, setup_keeps, is_claim, none_twice, step_keeps, schedule_keeps, Keeps, ReadKeeps}
+use Rattle.chorus_scene.proofs.Again.{and_join, or_first, or_second}
+use Rattle.chorus_scene.proofs.Next.{neither}
+use Rattle.chorus_scene.proofs.Sofar.{IsBeforeSchedule}
 use Rattle.chorus_scene.proofs.Spelled.{both}
 use Rattle.chorus_scene.proofs.Keeping.{all_at}
-use Rattle.chorus_scene.proofs.Fits.{IsCounted, Fits, fits}
-use Rattle.chorus_scene.proofs.Law.{Tidy, tidy_at, early_steps, Stays, Said, line_said, inv_text, inv_judge, section_ended}
+use Rattle.chorus_scene.proofs.Fits.{IsCounted, Fits, fits, so_not, un_not}
+use Rattle.chorus_scene.proofs.Law.{Tidy, tidy_at, early_parts, Stays, Said, line_said, inv_text, inv_judge, section_ended}
 
 -- lists that grow
 all_more : {X : Type 0} (p : X → Bool) (xs : List X) (x : X) → list_all p xs ≡ true → p x ≡ true → list_all p (xs ++ x ∷ []) ≡ true
@@ -68,8 +73,18 @@ last_more l version n command scripts some h k lt =
 -- the version and the sites, as far as the lines have said them
 abbrev BoundIn : Section → Scene → Type 0
 BoundIn sections.Head c = Unit {0}
-BoundIn sections.Sites c = (1 ≤ c.version) × (c.version ≤ 2)
-BoundIn _ c = (1 ≤ c.version) × (c.version ≤ 2) × IsCounted c
+BoundIn sections.Sites c = (1 ≤ c.version) × (c.version ≤ 3)
+BoundIn _ c = (1 ≤ c.version) × (c.version ≤ 3) × IsCounted c
+
+-- what the claims keep
+record Claims (c : Scene) : Type 0 where
+  from_three : c.version < 3 → c.claims ≡ []
+  few : length c.claims ≤ 64
+  each : list_all (is_claim c) c.claims ≡ true
+  once : none_twice c.claims ≡ true
+
+no_claims : (c : Scene) → c.claims ≡ [] → Claims c
+no_claims c e = record { from_three = λ k. e; few = rw e (omega arith); each = rw e refl; once = rw e refl }
 
 -- what the lines so far keep
 record Within (s : State) : Type 0 where
@@ -78,15 +93,20 @@ record Within (s : State) : Type 0 where
   setup : setup_keeps s.scene.layout s.scene.sites [] s.scene.setup ≡ true
   few_scripts : length s.scene.scripts ≤ 16
   scripts : list_all (script_keeps s.scene.layout s.scene.version s.scene.sites) s.scene.scripts ≡ true
+  claims : Claims s.scene
   few_steps : length s.scene.schedule ≤ 131072
   schedule : schedule_keeps s.scene.layout s.scene.sites s.scene.scripts [] s.scene.schedule ≡ true
 
 bound_at : (sec : Section) (s : State) → s.section ≡ sec → Within s → BoundIn sec s.scene
 bound_at sec s e w = let b = w.bound in rw e at b
 
-bound_early : (s : State) → (s.section ≡ sections.Setup) ⊎ (s.section ≡ sections.Scripts) → Within s → (1 ≤ s.scene.version) × (s.scene.version ≤ 2) × IsCounted s.scene
+bound_early : (s : State) → (s.section ≡ sections.Setup) ⊎ (s.section ≡ sections.Scripts) → Within s → (1 ≤ s.scene.version) × (s.scene.version ≤ 3) × IsCounted s.scene
 bound_early s (inl e) w = bound_at sections.Setup s e w
 bound_early s (inr e) w = bound_at sections.Scripts s e w
+
+bound_before : (s : State) → IsBeforeSchedule s → Within s → (1 ≤ s.scene.version) × (s.scene.version ≤ 3) × IsCounted s.scene
+bound_before s (inl e) w = bound_early s e.0 w
+bound_before s (inr e) w = bound_at sections.Claims s e w
 
 no_setup : (l : Layout) (n : ℕ) (lines : List SetupLine) → lines ≡ [] → setup_keeps l n [] lines ≡ true
 no_setup l n lines e = rw e refl
@@ -96,6 +116,36 @@ no_scripts l version n scripts e = rw e refl
 
 no_steps : (l : Layout) (n : ℕ) (scripts : List Script) (schedule : List step.Step) → schedule ≡ [] → schedule_keeps l n scripts [] schedule ≡ true
 no_steps l n scripts schedule e = rw e refl
+
+-- a claim more
+at_least : (n m : ℕ) → nat_le n m ≡ true → m < n → ⊥
+at_least n m h lt = grind (arith, nat_tests)
+
+same_both : (xs ys : List ℕ) → bytes_eq xs ys ≡ true → bytes_eq ys xs ≡ true
+same_both xs ys h = (bytes_eq-Decides ys xs).1 (sym ((bytes_eq-Decides xs ys).0 h))
+
+sided : (xs ys : List ℕ) (b : Bool) → bytes_eq xs ys ≡ b → bytes_eq ys xs ≡ false → b ≡ false
+sided xs ys false e h = refl
+sided xs ys true e h = absurd (let k = same_both xs ys e in cc)
+
+once_more : (texts : List (List ℕ)) (text : List ℕ) → none_twice texts ≡ true → is_claimed text texts ≡ false → none_twice (texts ++ text ∷ []) ≡ true
+once_more [] text h new = refl
+once_more (first ∷ texts) text h new =
+    let p = both (not (is_claimed first texts)) (none_twice texts) h in
+    let other = sided first text (bytes_eq first text) refl (or_first (bytes_eq text first) (is_claimed text texts) new) in
+    let no : is_claimed first (texts ++ text ∷ []) ≡ false = list_any-append (bytes_eq first) texts (text ∷ []) ∙ neither (is_claimed first texts) (bytes_eq first text || false) (un_not (is_claimed first texts) p.0) (neither (bytes_eq first text) false other refl) in
+    and_join _ _ (so_not (is_claimed first (texts ++ text ∷ [])) no) (once_more texts text p.1 (or_second (bytes_eq text first) (is_claimed text texts) new))
+
+step_claims : (c : Scene) (steps : List step.Step) → Claims c → Claims (record c { schedule = steps })
+step_claims c steps k = record { from_three = k.from_three; few = k.few; each = k.each; once = k.once }
+
+claim_more : (c : Scene) (text : List ℕ) → Claims c → Fits c (ClaimLine text) → Claims (record c { claims = c.claims ++ text ∷ [] })
+claim_more c text k f = record {
+  from_three = λ lt. absurd (at_least 3 c.version f.3 lt);
+  few = omega (arith, f.1, length-append c.claims (text ∷ []));
+  each = all_more (is_claim c) c.claims text k.each f.0;
+  once = once_more c.claims text k.once f.2;
+}
 
 -- a line more
 more : (s : State) (x : Line) → Within s → Stays s x → Fits s.scene x → Within (after s x)
@@ -107,6 +157,7 @@ more s (VersionLine v) w st f =
       setup = w.setup;
       few_scripts = w.few_scripts;
       scripts = no_scripts s.scene.layout v s.scene.sites s.scene.scripts t.1;
+      claims = no_claims (after s (VersionLine v)).scene t.3;
       few_steps = w.few_steps;
       schedule = w.schedule;
     }
@@ -119,6 +170,7 @@ more s (SitesLine n) w st f =
       setup = no_setup s.scene.layout n s.scene.setup t.0;
       few_scripts = w.few_scripts;
       scripts = no_scripts s.scene.layout s.scene.version n s.scene.scripts t.1;
+      claims = no_claims (after s (SitesLine n)).scene t.3;
       few_steps = w.few_steps;
       schedule = no_steps s.scene.layout n s.scene.scripts s.scene.schedule t.2;
     }
@@ -130,6 +182,7 @@ more s (PortLine u actor capacity) w st f =
       setup = setup_more s.scene.layout s.scene.sites [] s.scene.setup (setups.Port actor capacity) w.setup (f b.2);
       few_scripts = w.few_scripts;
       scripts = w.scripts;
+      claims = no_claims (after s (PortLine u actor capacity)).scene (tidy_at sections.Setup s st.0.0 w.tidy).2;
       few_steps = w.few_steps;
       schedule = w.schedule;
     }
@@ -141,6 +194,7 @@ more s (GroupLine u) w st f =
       setup = setup_more s.scene.layout s.scene.sites [] s.scene.setup (setups.Group u.site) w.setup (f b.2);
       few_scripts = w.few_scripts;
       scripts = w.scripts;
+      claims = no_claims (after s (GroupLine u)).scene (tidy_at sections.Setup s st.0.0 w.tidy).2;
       few_steps = w.few_steps;
       schedule = w.schedule;
     }
@@ -152,6 +206,7 @@ more s (MemberLine group port) w st f =
       setup = setup_more s.scene.layout s.scene.sites [] s.scene.setup (setups.Member group port) w.setup (f b.2);
       few_scripts = w.few_scripts;
       scripts = w.scripts;
+      claims = no_claims (after s (MemberLine group port)).scene (tidy_at sections.Setup s st.0.0 w.tidy).2;
       few_steps = w.few_steps;
       schedule = w.schedule;
     }
@@ -165,8 +220,9 @@ more s (ScriptLine actor) w st f =
       setup = w.setup;
       few_scripts = omega (arith, f.1, length-append s.scene.scripts (script ∷ []));
       scripts = all_more (script_keeps s.scene.layout s.scene.version s.scene.sites) s.scene.scripts script w.scripts (and_join _ _ (and_join _ _ (f.0 b.2) refl) refl);
+      claims = no_claims (after s (ScriptLine actor)).scene (early_parts s st.0 w.tidy).1;
       few_steps = w.few_steps;
-      schedule = no_steps s.scene.layout s.scene.sites (s.scene.scripts ++ script ∷ []) s.scene.schedule (early_steps s st.0 w.tidy);
+      schedule = no_steps s.scene.layout s.scene.sites (s.scene.scripts ++ script ∷ []) s.scene.schedule ((early_parts s st.0 w.tidy).0);
     }
 more s (CommandLine command) w st f =
     let b = bound_at sections.Scripts s st.0.0 w in
@@ -178,15 +234,27 @@ more s (CommandLine command) w st f =
       setup = w.setup;
       few_scripts = omega (arith, w.few_scripts, length-set s.scene.scripts (length s.scene.scripts - 1) (with_command command (last_script s.scene.scripts)));
       scripts = last_more s.scene.layout s.scene.version s.scene.sites command s.scene.scripts t.0 w.scripts (f.0 b.2) f.1;
+      claims = no_claims (after s (CommandLine command)).scene t.2;
       few_steps = w.few_steps;
       schedule = no_steps s.scene.layout s.scene.sites now s.scene.schedule t.1;
     }
-more s ScheduleLine w st f = record {
+more s (ClaimLine text) w st f = record {
   tidy = st.1;
-  bound = bound_early s st.0.0 w;
+  bound = bound_before s st.0 w;
   setup = w.setup;
   few_scripts = w.few_scripts;
   scripts = w.scripts;
+  claims = claim_more s.scene text w.claims f;
+  few_steps = w.few_steps;
+  schedule = w.schedule;
+}
+more s ScheduleLine w st f = record {
+  tidy = st.1;
+  bound = bound_before s st.0.0 w;
+  setup = w.setup;
+  few_scripts = w.few_scripts;
+  scripts = w.scripts;
+  claims = w.claims;
   few_steps = w.few_steps;
   schedule = w.schedule;
 }
@@ -196,6 +264,7 @@ more s (StepLine step) w st f = record {
   setup = w.setup;
   few_scripts = w.few_scripts;
   scripts = w.scripts;
+  claims = step_claims s.scene (s.scene.schedule ++ step ∷ []) w.claims;
   few_steps = omega (arith, f.1, length-append s.scene.schedule (step ∷ []));
   schedule = schedule_more s.scene.layout s.scene.sites s.scene.scripts [] s.scene.schedule step w.schedule f.0;
 }
@@ -205,6 +274,7 @@ more s EndLine w st f = record {
   setup = w.setup;
   few_scripts = w.few_scripts;
   scripts = w.scripts;
+  claims = w.claims;
   few_steps = w.few_steps;
   schedule = w.schedule;
 }
@@ -222,13 +292,17 @@ ended_keeps t e w =
     let b = bound_at sections.Ended t e w in
     record {
       version_from_one = b.0;
-      version_to_two = b.1;
+      version_to_three = b.1;
       sites_from_one = b.2.from_one;
       sites_of_layout = b.2.of_layout;
       sites_of_version = b.2.of_version;
       setup = w.setup;
       few_scripts = w.few_scripts;
       scripts = w.scripts;
+      claims_from_three = w.claims.from_three;
+      few_claims = w.claims.few;
+      claims = w.claims.each;
+      claims_once = w.claims.once;
       few_steps = w.few_steps;
       schedule = w.schedule;
     }
@@ -237,5 +311,5 @@ pub kept : ReadKeeps
 kept l text c h =
     let i = inv_text l text c h in
     let p = inv_judge 1 (opening l) (lines text) c i.1 in
-    let w = all_more_lines (opening l) p.0 (lines text) (record { tidy = (refl, refl, refl); bound = tt; setup = refl; few_scripts = omega arith; scripts = refl; few_steps = omega arith; schedule = refl }) p.1 in
+    let w = all_more_lines (opening l) p.0 (lines text) (record { tidy = (refl, refl, refl, refl); bound = tt; setup = refl; few_scripts = omega arith; scripts = refl; claims = no_claims (opening l).scene refl; few_steps = omega arith; schedule = refl }) p.1 in
     subst Keeps p.3 (ended_keeps p.0 (section_ended p.0.section p.2) w)

@@ -22,7 +22,7 @@ use Rattle.chorus_lines.specs.declared.word.Reason.TheVariants as reasons
 use Rattle.chorus_lines.specs.Text.{cut, lines, fields, number_in, each_byte, is_plain, is_text, is_skipped}
 use Rattle.chorus_scene.specs.Scene.{Scene}
 use Rattle.chorus_scene.specs.Making.{next_port, next_group}
-use Rattle.chorus_scene.specs.Line.{Line, VersionLine, SitesLine, PortLine, GroupLine, MemberLine, ScriptLine, CommandLine, ScheduleLine, StepLine, EndLine, name_in, command_of, line_of, cuts, wants, has_body, field}
+use Rattle.chorus_scene.specs.Line.{Line, VersionLine, SitesLine, PortLine, GroupLine, MemberLine, ScriptLine, CommandLine, ClaimLine, ScheduleLine, StepLine, EndLine, name_in, command_of, line_of, cuts, wants, has_body, field}
 use Rattle.chorus_lines.specs.Words.{word_of, may_stand}
 use Rattle.chorus_ui.specs.declared.kind.Kind.TheVariants as kinds
 use Rattle.chorus_scene.specs.Grammar.{State, opening, made, or_at, judge, read_scene, is_ended, judge_fields, judge_line, judge_head, judge_word, unless, is_head, next, then_after, after, with_command, last_script, is_not_given}
@@ -31,11 +31,11 @@ use Rattle.chorus_scene.specs.Print.{behind, text_of, joined, printed}
 use Rattle.chorus_scene.proofs.Spelled.{lacks, both, marked, uncut, cut_join, cut_all, cut_lacks, behind_fields, is_line, are_lines, lines_joined, total, total-append, total_lines, length_joined}
 use Rattle.chorus_scene.proofs.Reprint.{last_reprinted, swap}
 use Rattle.chorus_scene.proofs.Words.{word_text, word_spelled, word_some}
-use Rattle.chorus_scene.proofs.Again.{Passes, Again, as_printed, again, len, each_append, each_parts, inv_known, inv_unless, inv_map, inv_two, inv_three, inv_fields, fields_again}
-use Rattle.chorus_scene.proofs.Fits.{Tested, clear, not_so}
+use Rattle.chorus_scene.proofs.Again.{Passes, Again, clear, as_printed, again, len, each_append, each_parts, inv_known, inv_unless, inv_map, inv_two, inv_three, inv_fields, fields_again}
+use Rattle.chorus_scene.proofs.Fits.{Tested, not_so}
 use Rattle.chorus_scene.proofs.Next.{next_is}
 use Rattle.chorus_scene.proofs.Order.{accepted}
-use Rattle.chorus_scene.proofs.Sofar.{Follows, texts_in, grows}
+use Rattle.chorus_scene.proofs.Sofar.{Follows, IsBeforeSchedule, texts_in, grows}
 
 -- where a word may stand
 abbrev Allowed : Word → Section → Type 0
@@ -46,7 +46,8 @@ Allowed words.Group sec = sec ≡ sections.Setup
 Allowed words.Member sec = sec ≡ sections.Setup
 Allowed words.Script sec = (sec ≡ sections.Setup) ⊎ (sec ≡ sections.Scripts)
 Allowed (words.Command verb) sec = sec ≡ sections.Scripts
-Allowed words.Schedule sec = (sec ≡ sections.Setup) ⊎ (sec ≡ sections.Scripts)
+Allowed words.Claim sec = ((sec ≡ sections.Setup) ⊎ (sec ≡ sections.Scripts)) ⊎ (sec ≡ sections.Claims)
+Allowed words.Schedule sec = ((sec ≡ sections.Setup) ⊎ (sec ≡ sections.Scripts)) ⊎ (sec ≡ sections.Claims)
 Allowed words.Step sec = sec ≡ sections.Schedule
 Allowed words.Deliver sec = sec ≡ sections.Schedule
 Allowed words.Drain sec = sec ≡ sections.Schedule
@@ -58,10 +59,14 @@ allowed sections.Setup words.Port h = refl
 allowed sections.Setup words.Group h = refl
 allowed sections.Setup words.Member h = refl
 allowed sections.Setup words.Script h = inl refl
-allowed sections.Setup words.Schedule h = inl refl
+allowed sections.Setup words.Claim h = inl (inl refl)
+allowed sections.Setup words.Schedule h = inl (inl refl)
 allowed sections.Scripts words.Script h = inr refl
 allowed sections.Scripts (words.Command verb) h = refl
-allowed sections.Scripts words.Schedule h = inr refl
+allowed sections.Scripts words.Claim h = inl (inr refl)
+allowed sections.Scripts words.Schedule h = inl (inr refl)
+allowed sections.Claims words.Claim h = inr refl
+allowed sections.Claims words.Schedule h = inr refl
 allowed sections.Schedule words.Step h = refl
 allowed sections.Schedule words.Deliver h = refl
 allowed sections.Schedule words.Drain h = refl
@@ -70,10 +75,11 @@ allowed _ _ h = absurd cc
 
 -- what the sections before have left empty
 abbrev pub TidyIn : Section → Scene → Type 0
-TidyIn sections.Head c = (c.setup ≡ []) × (c.scripts ≡ []) × (c.schedule ≡ [])
-TidyIn sections.Sites c = (c.setup ≡ []) × (c.scripts ≡ []) × (c.schedule ≡ [])
-TidyIn sections.Setup c = (c.scripts ≡ []) × (c.schedule ≡ [])
-TidyIn sections.Scripts c = (0 < length c.scripts) × (c.schedule ≡ [])
+TidyIn sections.Head c = (c.setup ≡ []) × (c.scripts ≡ []) × (c.schedule ≡ []) × (c.claims ≡ [])
+TidyIn sections.Sites c = (c.setup ≡ []) × (c.scripts ≡ []) × (c.schedule ≡ []) × (c.claims ≡ [])
+TidyIn sections.Setup c = (c.scripts ≡ []) × (c.schedule ≡ []) × (c.claims ≡ [])
+TidyIn sections.Scripts c = (0 < length c.scripts) × (c.schedule ≡ []) × (c.claims ≡ [])
+TidyIn sections.Claims c = c.schedule ≡ []
 TidyIn sections.Schedule c = Unit {0}
 TidyIn sections.Ended c = Unit {0}
 
@@ -83,9 +89,13 @@ Tidy s = TidyIn s.section s.scene
 pub tidy_at : (sec : Section) (s : State) → s.section ≡ sec → Tidy s → TidyIn sec s.scene
 tidy_at sec s e t = rw e at t
 
-pub early_steps : (s : State) → (s.section ≡ sections.Setup) ⊎ (s.section ≡ sections.Scripts) → Tidy s → s.scene.schedule ≡ []
-early_steps s (inl e) t = (tidy_at sections.Setup s e t).1
-early_steps s (inr e) t = (tidy_at sections.Scripts s e t).1
+pub early_parts : (s : State) → (s.section ≡ sections.Setup) ⊎ (s.section ≡ sections.Scripts) → Tidy s → (s.scene.schedule ≡ []) × (s.scene.claims ≡ [])
+early_parts s (inl e) t = let k = tidy_at sections.Setup s e t in (k.1, k.2)
+early_parts s (inr e) t = let k = tidy_at sections.Scripts s e t in (k.1, k.2)
+
+before_schedule_parts : (s : State) → ((s.section ≡ sections.Setup) ⊎ (s.section ≡ sections.Scripts)) ⊎ (s.section ≡ sections.Claims) → Tidy s → IsBeforeSchedule s × (s.scene.schedule ≡ [])
+before_schedule_parts s (inl e) t = let k = early_parts s e t in (inl (e, k.1), k.0)
+before_schedule_parts s (inr e) t = (inr e, tidy_at sections.Claims s e t)
 
 bare : (x y : Line) → ◌≡◌ {A = Option Line} (Some y) (Some x) → y ≡ x
 bare x y h = cc
@@ -98,33 +108,34 @@ module _ (s : State) (t : Tidy s) (fs : List (List ℕ)) (x : Line) (judged : ju
   command_stays : (command : Command) → CommandLine command ≡ x → s.section ≡ sections.Scripts → Stays s x
   command_stays command same e =
       let k = tidy_at sections.Scripts s e t in
-      subst (Stays s) same ((e, k.0), (rw (length-set s.scene.scripts (length s.scene.scripts - 1) (with_command command (last_script s.scene.scripts))) k.0, k.1))
+      subst (Stays s) same ((e, k.0), (rw (length-set s.scene.scripts (length s.scene.scripts - 1) (with_command command (last_script s.scene.scripts))) k.0, k.1, k.2))
 
   stays_by : (w : Word) → Allowed w s.section → line_of w fs ≡ Some x → Stays s x
   stays_by words.Chorus e h = absurd e
   stays_by words.Sites e h =
       let k = tidy_at sections.Sites s e t in
       let p = inv_map SitesLine (number_in (field 0 fs)) x h in
-      subst (Stays s) p.2 ((e, k.0, k.1), (k.1, k.2))
+      subst (Stays s) p.2 ((e, k.0, k.1), (k.1, k.2, k.3))
   stays_by words.Port e h =
       let k = tidy_at sections.Setup s e t in
       let p = inv_three PortLine (name_in kinds.Port (field 0 fs)) (name_in kinds.Actor (field 1 fs)) (number_in (field 2 fs)) x h in
       let given = not_so (same_ui p.0 (next_port s.scene.layout p.1 (made s.scene))) (ap (is_not_given s.scene) p.6 ∙ (clear s.scene x judged).order) in
-      subst (Stays s) p.6 ((e, k.0, from_same_ui p.0 (next_port s.scene.layout p.1 (made s.scene)) given), (k.0, k.1))
+      subst (Stays s) p.6 ((e, k.0, from_same_ui p.0 (next_port s.scene.layout p.1 (made s.scene)) given), (k.0, k.1, k.2))
   stays_by words.Group e h =
       let k = tidy_at sections.Setup s e t in
       let p = inv_map GroupLine (name_in kinds.Group (field 0 fs)) x h in
       let given = not_so (same_ui p.0 (next_group s.scene.layout p.0.site (made s.scene))) (ap (is_not_given s.scene) p.2 ∙ (clear s.scene x judged).order) in
-      subst (Stays s) p.2 ((e, k.0, from_same_ui p.0 (next_group s.scene.layout p.0.site (made s.scene)) given), (k.0, k.1))
+      subst (Stays s) p.2 ((e, k.0, from_same_ui p.0 (next_group s.scene.layout p.0.site (made s.scene)) given), (k.0, k.1, k.2))
   stays_by words.Member e h =
       let k = tidy_at sections.Setup s e t in
       let p = inv_two MemberLine (name_in kinds.Group (field 0 fs)) (name_in kinds.Port (field 1 fs)) x h in
-      subst (Stays s) p.4 ((e, k.0), (k.0, k.1))
+      subst (Stays s) p.4 ((e, k.0), (k.0, k.1, k.2))
   stays_by words.Script e h =
       let p = inv_map ScriptLine (name_in kinds.Actor (field 0 fs)) x h in
-      subst (Stays s) p.2 (e, (omega (arith, length-append s.scene.scripts (record { actor = p.0; commands = [] } ∷ [])), early_steps s e t))
+      subst (Stays s) p.2 (e, (omega (arith, length-append s.scene.scripts (record { actor = p.0; commands = [] } ∷ [])), (early_parts s e t).0, (early_parts s e t).1))
   stays_by (words.Command verb) e h = let p = inv_map CommandLine (command_of verb fs) x h in command_stays p.0 p.2 e
-  stays_by words.Schedule e h = subst (Stays s) (bare x ScheduleLine h) ((e, early_steps s e t), tt)
+  stays_by words.Claim e h = let k = before_schedule_parts s e t in subst (Stays s) (bare x (ClaimLine (field 0 fs)) h) (k.0, k.1)
+  stays_by words.Schedule e h = subst (Stays s) (bare x ScheduleLine h) (before_schedule_parts s e t, tt)
   stays_by words.Step e h = let p = inv_map (λ n. StepLine (steps.Step n)) (number_in (field 0 fs)) x h in subst (Stays s) p.2 (e, tt)
   stays_by words.Deliver e h = let p = inv_two (λ a b. StepLine (steps.Deliver a b)) (number_in (field 0 fs)) (number_in (field 1 fs)) x h in subst (Stays s) p.4 (e, tt)
   stays_by words.Drain e h = subst (Stays s) (bare x (StepLine steps.Drain) h) (e, tt)
@@ -174,6 +185,9 @@ one_text = ap (λ ds. codes "chorus" ++ behind (ds ∷ [])) (decimal_digit 1 (om
 two_text : text_of (VersionLine 2) ≡ codes "chorus 2"
 two_text = ap (λ ds. codes "chorus" ++ behind (ds ∷ [])) (decimal_digit 2 (omega arith))
 
+three_text : text_of (VersionLine 3) ≡ codes "chorus 3"
+three_text = ap (λ ds. codes "chorus" ++ behind (ds ∷ [])) (decimal_digit 3 (omega arith))
+
 one_again : (s : State) → s.section ≡ sections.Head → next s (codes "chorus 1") ≡ Ok (after s (VersionLine 1))
 unfolding next each_byte
 one_again s e = rw e refl
@@ -181,6 +195,10 @@ one_again s e = rw e refl
 two_again : (s : State) → s.section ≡ sections.Head → next s (codes "chorus 2") ≡ Ok (after s (VersionLine 2))
 unfolding next each_byte
 two_again s e = rw e refl
+
+three_again : (s : State) → s.section ≡ sections.Head → next s (codes "chorus 3") ≡ Ok (after s (VersionLine 3))
+unfolding next each_byte
+three_again s e = rw e refl
 
 one_line : is_line (codes "chorus 1") ≡ true
 unfolding each_byte
@@ -190,7 +208,11 @@ two_line : is_line (codes "chorus 2") ≡ true
 unfolding each_byte
 two_line = refl
 
-head_said : (s u : State) (v : ℕ) (bytes : List ℕ) → s.section ≡ sections.Head → Tidy s → text_of (VersionLine v) ≡ bytes → next s bytes ≡ Ok (after s (VersionLine v)) → is_line bytes ≡ true → u ≡ after s (VersionLine v) → 1 ≤ v → v ≤ 2 → Said s bytes u
+three_line : is_line (codes "chorus 3") ≡ true
+unfolding each_byte
+three_line = refl
+
+head_said : (s u : State) (v : ℕ) (bytes : List ℕ) → s.section ≡ sections.Head → Tidy s → text_of (VersionLine v) ≡ bytes → next s bytes ≡ Ok (after s (VersionLine v)) → is_line bytes ≡ true → u ≡ after s (VersionLine v) → 1 ≤ v → v ≤ 3 → Said s bytes u
 head_said s u v bytes e t text again one so from to = record {
   line = VersionLine v;
   stays = head_stays s v e t;
@@ -201,15 +223,18 @@ head_said s u v bytes e t text again one so from to = record {
   tested = inl (v, refl, from, to);
 }
 
-head_by : (s u : State) (bytes : List ℕ) (x : Line) (a b : Bool) → (a ≡ true → bytes ≡ codes "chorus 1") → (b ≡ true → bytes ≡ codes "chorus 2") → s.section ≡ sections.Head → Tidy s
-    → cond a (Ok (VersionLine 1)) (cond b (Ok (VersionLine 2)) (Err reasons.Header)) ≡ Ok x → u ≡ after s x → Said s bytes u
-head_by s u bytes x true b one two e t h so =
+head_by : (s u : State) (bytes : List ℕ) (x : Line) (a b d : Bool) → (a ≡ true → bytes ≡ codes "chorus 1") → (b ≡ true → bytes ≡ codes "chorus 2") → (d ≡ true → bytes ≡ codes "chorus 3") → s.section ≡ sections.Head → Tidy s
+    → cond a (Ok (VersionLine 1)) (cond b (Ok (VersionLine 2)) (cond d (Ok (VersionLine 3)) (Err reasons.Header))) ≡ Ok x → u ≡ after s x → Said s bytes u
+head_by s u bytes x true b d one two three e t h so =
     let same : VersionLine 1 ≡ x = cc in
     subst (λ xs. Said s xs u) (sym (one refl)) (head_said s u 1 (codes "chorus 1") e t one_text (one_again s e) one_line (so ∙ ap (after s) (sym same)) (omega arith) (omega arith))
-head_by s u bytes x false true one two e t h so =
+head_by s u bytes x false true d one two three e t h so =
     let same : VersionLine 2 ≡ x = cc in
     subst (λ xs. Said s xs u) (sym (two refl)) (head_said s u 2 (codes "chorus 2") e t two_text (two_again s e) two_line (so ∙ ap (after s) (sym same)) (omega arith) (omega arith))
-head_by s u bytes x false false one two e t h so = absurd cc
+head_by s u bytes x false false true one two three e t h so =
+    let same : VersionLine 3 ≡ x = cc in
+    subst (λ xs. Said s xs u) (sym (three refl)) (head_said s u 3 (codes "chorus 3") e t three_text (three_again s e) three_line (so ∙ ap (after s) (sym same)) (omega arith) (omega arith))
+head_by s u bytes x false false false one two three e t h so = absurd cc
 
 -- a line with a word
 some_skipped : (word a b : List ℕ) → 0 < length word → is_skipped (word ++ a) ≡ is_skipped (word ++ b)
@@ -310,6 +335,7 @@ head_or_not sections.Head = inl refl
 head_or_not sections.Sites = inr (refl, λ e. absurd cc)
 head_or_not sections.Setup = inr (refl, λ e. absurd cc)
 head_or_not sections.Scripts = inr (refl, λ e. absurd cc)
+head_or_not sections.Claims = inr (refl, λ e. absurd cc)
 head_or_not sections.Schedule = inr (refl, λ e. absurd cc)
 head_or_not sections.Ended = inr (refl, λ e. absurd cc)
 
@@ -317,7 +343,8 @@ bytes_said : (s u : State) (bytes : List ℕ) (x : Line) → Tidy s → each_byt
     → (if is_head s.section then judge_head bytes else judge_word s (cut 32 bytes)) ≡ Ok x → u ≡ after s x → Said s bytes u
 bytes_said s u bytes x t plain kept (inl e) h so =
     let g : judge_head bytes ≡ Ok x = rw e at h in
-    head_by s u bytes x (bytes_eq bytes (codes "chorus 1")) (bytes_eq bytes (codes "chorus 2")) (bytes_eq-Decides bytes (codes "chorus 1")).0 (bytes_eq-Decides bytes (codes "chorus 2")).0 e t g so
+    head_by s u bytes x (bytes_eq bytes (codes "chorus 1")) (bytes_eq bytes (codes "chorus 2")) (bytes_eq bytes (codes "chorus 3"))
+    (bytes_eq-Decides bytes (codes "chorus 1")).0 (bytes_eq-Decides bytes (codes "chorus 2")).0 (bytes_eq-Decides bytes (codes "chorus 3")).0 e t g so
 bytes_said s u bytes x t plain kept (inr e) h so =
     let n = e.0 in
     let g : judge_word s (cut 32 bytes) ≡ Ok x = rw n at h in
@@ -361,6 +388,7 @@ layout_stays s (GroupLine u) = refl
 layout_stays s (MemberLine group port) = refl
 layout_stays s (ScriptLine actor) = refl
 layout_stays s (CommandLine command) = refl
+layout_stays s (ClaimLine text) = refl
 layout_stays s ScheduleLine = refl
 layout_stays s (StepLine step) = refl
 layout_stays s EndLine = refl
@@ -425,7 +453,7 @@ printed_again l text c h =
     let p = inv_judge 1 (opening l) (lines text) c i.1 in
     let t = p.0 in
     let e = section_ended t.section p.2 in
-    let q = prints l (opening l) t 0 (lines text) (record { layout = refl; tidy = (refl, refl, refl); pass = refl; each = refl; short = omega arith }) p.1 in
+    let q = prints l (opening l) t 0 (lines text) (record { layout = refl; tidy = (refl, refl, refl, refl); pass = refl; each = refl; short = omega arith }) p.1 in
     let same : texts_in t.section t.scene ≡ texts_in sections.Ended c = ap (λ s. texts_in s t.scene) e ∙ ap (texts_in sections.Ended) p.3 in
     let each = subst (λ ls. are_lines ls ≡ true) same q.each in
     let pass = subst (λ ls. Pass (opening l) ls t) (same ∙ sym (lines_joined (texts_in sections.Ended c) each)) q.pass in

@@ -101,6 +101,7 @@ not_ended sections.Head h = refl
 not_ended sections.Sites h = refl
 not_ended sections.Setup h = refl
 not_ended sections.Scripts h = refl
+not_ended sections.Claims h = refl
 not_ended sections.Schedule h = refl
 
 -- what reading a text that is not too long judges

@@ -19,13 +19,14 @@ use Rattle.chorus_lines.specs.Body.{begins_a_body}
 use Rattle.chorus_scene.specs.Making.{next_name}
 use Rattle.chorus_scene.specs.Line.{Line, PortLine, GroupLine, cuts, is_misshapen, line_of, name_in, with_three}
 use Rattle.chorus_lines.specs.Words.{word_of, may_stand}
-use Rattle.chorus_scene.specs.Grammar.{State, made, next, then_after, judge_fields, is_head, unless, after, with_setup, is_far, is_no_actor, is_beyond, names_unknown, repeats, is_not_given, is_unscheduled}
+use Rattle.chorus_scene.specs.Grammar.{State, made, next, then_after, judge_fields, is_head, unless, after, with_setup, is_far, is_no_actor, is_no_claim, is_misspelled, is_beyond, names_unknown, repeats, is_not_given, is_unscheduled}
 
 not_head : (s : Section) → (s ≡ sections.Head → ⊥) → is_head s ≡ false
 not_head sections.Head h = absurd (h refl)
 not_head sections.Sites h = refl
 not_head sections.Setup h = refl
 not_head sections.Scripts h = refl
+not_head sections.Claims h = refl
 not_head sections.Schedule h = refl
 not_head sections.Ended h = refl
 
@@ -41,9 +42,9 @@ given_or_not s x true = refl
 given_or_not s x false = refl
 
 -- a line that makes something and fails none of the other tests
-made_line : (s : State) (w : Word) (fs : List (List ℕ)) (x : Line) → is_misshapen s.scene.version w fs ≡ false → line_of w fs ≡ Some x → is_beyond s.scene x ≡ false → names_unknown s.scene x ≡ false → repeats s.scene x ≡ false → is_unscheduled s.scene x ≡ false
+made_line : (s : State) (w : Word) (fs : List (List ℕ)) (x : Line) → is_misshapen s.scene.version w fs ≡ false → line_of w fs ≡ Some x → is_no_claim s.scene x ≡ false → is_misspelled s.scene x ≡ false → is_beyond s.scene x ≡ false → names_unknown s.scene x ≡ false → repeats s.scene x ≡ false → is_unscheduled s.scene x ≡ false
     → unless (is_not_given s.scene x) reasons.Order (Ok (after s x)) ≡ then_after s (judge_fields s.scene w fs)
-made_line s w fs x shape line beyond unknown twice unscheduled = given_or_not s x (is_not_given s.scene x) ∙ ap (then_after s) (sym (rw (shape, line, beyond, unknown, twice, unscheduled) refl))
+made_line s w fs x shape line claim spelled beyond unknown twice unscheduled = given_or_not s x (is_not_given s.scene x) ∙ ap (then_after s) (sym (rw (shape, line, claim, spelled, beyond, unknown, twice, unscheduled) refl))
 
 whole : (n version : ℕ) (fs : List (List ℕ)) (f : List ℕ) → are_fields n fs ≡ true → (not (are_fields n fs) || (false && not (begins_a_body version f))) ≡ false
 whole n version fs f h = rw h refl
@@ -54,7 +55,7 @@ few n m h = grind (arith, nat_tests)
 capacity_fits : (n m k : ℕ) → n ≢ 0 → n ≤ 64 → m ≤ k → (((n == 0) || nat_lt 64 n) || nat_lt k m) ≡ false
 capacity_fits n m k some h e = grind (arith, nat_tests)
 
-neither : (a b : Bool) → a ≡ false → b ≡ false → (a || b) ≡ false
+pub neither : (a b : Bool) → a ≡ false → b ≡ false → (a || b) ≡ false
 neither false b h k = k
 neither true b h k = h
 
@@ -63,7 +64,7 @@ pub group_read : (s : State) (a : List ℕ) (g : Ui) (kind : Kind) (site : ℕ) 
 group_read s a g kind site shape name small near new is-kind is-site =
     ap (λ k. unless (not (same_ui g (next_name s.scene.layout k site 1 (made s.scene)))) reasons.Order (Ok (with_setup s (setups.Group site)))) is-kind
     ∙ ap (λ m. unless (not (same_ui g (next_name s.scene.layout kinds.Group m 1 (made s.scene)))) reasons.Order (Ok (with_setup s (setups.Group m)))) is-site
-    ∙ made_line s words.Group (a ∷ []) (GroupLine g) (whole 1 s.scene.version (a ∷ []) a shape) (ap (option_map GroupLine) (sym name)) (few g.number 4 small) near new refl
+    ∙ made_line s words.Group (a ∷ []) (GroupLine g) (whole 1 s.scene.version (a ∷ []) a shape) (ap (option_map GroupLine) (sym name)) refl refl (few g.number 4 small) near new refl
 
 pub port_read : (s : State) (a b d : List ℕ) (u actor : Ui) (capacity : ℕ) (kind : Kind) (site number : ℕ) → are_fields 3 (a ∷ b ∷ d ∷ []) ≡ true → Some u ≡ name_in kinds.Port a → Some actor ≡ name_in kinds.Actor b → Some capacity ≡ number_in d
     → capacity ≢ 0 → capacity ≤ 64 → u.number ≤ 32 → is_far s.scene u ≡ false → is_no_actor s.scene actor ≡ false → is_member u (made s.scene) ≡ false → kind ≡ kinds.Port → site ≡ actor.site → number ≡ actor.number
@@ -75,4 +76,4 @@ port_read s a b d u actor capacity kind site number shape port-name actor-name c
     ∙ ap (λ n. unless (not (same_ui u (next_name s.scene.layout kinds.Port actor.site n (made s.scene)))) reasons.Order t) is-number
     ∙ made_line s words.Port (a ∷ b ∷ d ∷ []) (PortLine u actor capacity) (whole 3 s.scene.version (a ∷ b ∷ d ∷ []) d shape)
     (ap (λ o. with_three PortLine o (name_in kinds.Actor b) (number_in d)) (sym port-name) ∙ ap (λ o. with_three PortLine (Some u) o (number_in d)) (sym actor-name) ∙ ap (λ o. with_three PortLine (Some u) (Some actor) o) (sym count))
-    (capacity_fits capacity u.number 32 some most small) (neither (is_far s.scene u) (is_no_actor s.scene actor) near there) new refl
+    refl refl (capacity_fits capacity u.number 32 some most small) (neither (is_far s.scene u) (is_no_actor s.scene actor) near there) new refl

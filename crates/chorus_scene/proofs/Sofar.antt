@@ -12,16 +12,17 @@ use Rattle.chorus_scene.specs.declared.scenario.SetupLine.{SetupLine}
 use Rattle.chorus_scene.specs.declared.scenario.SetupLine.TheVariants as setups
 use Rattle.chorus_scene.specs.Scene.{Scene, Script}
 use Rattle.chorus_scene.specs.Making.{makes, made_after, next_port, next_group}
-use Rattle.chorus_scene.specs.Line.{Line, VersionLine, SitesLine, PortLine, GroupLine, MemberLine, ScriptLine, CommandLine, ScheduleLine, StepLine, EndLine}
+use Rattle.chorus_scene.specs.Line.{Line, VersionLine, SitesLine, PortLine, GroupLine, MemberLine, ScriptLine, CommandLine, ClaimLine, ScheduleLine, StepLine, EndLine}
 use Rattle.chorus_scene.specs.Grammar.{State, after, made, with_command, last_script, no_script}
-use Rattle.chorus_scene.specs.Print.{setup_text, setup_texts, script_texts, command_text, step_text, version_text, sites_text, text_of, before_schedule, scene_texts}
+use Rattle.chorus_scene.specs.Print.{setup_text, setup_texts, script_texts, command_text, claim_text, step_text, version_text, sites_text, text_of, before_claims, before_schedule, scene_texts}
 
 -- the lines that a scenario so far is printed as
 abbrev pub texts_in : Section → Scene → List (List ℕ)
 texts_in sections.Head c = []
 texts_in sections.Sites c = version_text c.version ∷ []
-texts_in sections.Setup c = before_schedule c
-texts_in sections.Scripts c = before_schedule c
+texts_in sections.Setup c = before_claims c
+texts_in sections.Scripts c = before_claims c
+texts_in sections.Claims c = before_schedule c
 texts_in sections.Schedule c = before_schedule c ++ codes "schedule" ∷ map step_text c.schedule
 texts_in sections.Ended c = scene_texts c
 
@@ -46,6 +47,10 @@ last_at c (x ∷ y ∷ ys) (suc i) e = ap (λ rest. script_texts x ++ rest) (las
 last_more : (c : Command) (scripts : List Script) → 0 < length scripts → flat_map script_texts (set scripts (length scripts - 1) (with_command c (last_script scripts))) ≡ flat_map script_texts scripts ++ command_text c ∷ []
 last_more c scripts some = last_at c scripts (length scripts - 1) (omega arith)
 
+-- the setup or the scripts, where nothing was claimed yet, or the claims
+abbrev pub IsBeforeSchedule : State → Type 0
+IsBeforeSchedule s = (((s.section ≡ sections.Setup) ⊎ (s.section ≡ sections.Scripts)) × (s.scene.claims ≡ [])) ⊎ (s.section ≡ sections.Claims)
+
 -- where a line may follow, as far as printing goes
 abbrev pub Follows : State → Line → Type 0
 Follows s (VersionLine v) = s.section ≡ sections.Head
@@ -55,13 +60,21 @@ Follows s (GroupLine u) = (s.section ≡ sections.Setup) × (s.scene.scripts ≡
 Follows s (MemberLine group port) = (s.section ≡ sections.Setup) × (s.scene.scripts ≡ [])
 Follows s (ScriptLine actor) = (s.section ≡ sections.Setup) ⊎ (s.section ≡ sections.Scripts)
 Follows s (CommandLine command) = (s.section ≡ sections.Scripts) × (0 < length s.scene.scripts)
-Follows s ScheduleLine = ((s.section ≡ sections.Setup) ⊎ (s.section ≡ sections.Scripts)) × (s.scene.schedule ≡ [])
+Follows s (ClaimLine text) = IsBeforeSchedule s
+Follows s ScheduleLine = IsBeforeSchedule s × (s.scene.schedule ≡ [])
 Follows s (StepLine step) = s.section ≡ sections.Schedule
 Follows s EndLine = s.section ≡ sections.Schedule
 
-early_texts : (s : Section) (c : Scene) → (s ≡ sections.Setup) ⊎ (s ≡ sections.Scripts) → texts_in s c ≡ before_schedule c
+early_texts : (s : Section) (c : Scene) → (s ≡ sections.Setup) ⊎ (s ≡ sections.Scripts) → texts_in s c ≡ before_claims c
 early_texts s c (inl e) = rw e refl
 early_texts s c (inr e) = rw e refl
+
+no_claims : (c : Scene) → c.claims ≡ [] → before_claims c ≡ before_schedule c
+no_claims c e = rw e (sym (append-nil (before_claims c)))
+
+texts_before : (s : State) → IsBeforeSchedule s → texts_in s.section s.scene ≡ before_schedule s.scene
+texts_before s (inl e) = early_texts s.section s.scene e.0 ∙ no_claims s.scene e.1
+texts_before s (inr e) = rw e refl
 
 -- a line of the setup more
 setup_grows : (s : State) (line : SetupLine) (text : List ℕ) → s.section ≡ sections.Setup → s.scene.scripts ≡ [] → setup_text s.scene.layout (made s.scene) line ≡ text
@@ -85,6 +98,9 @@ grows s (ScriptLine actor) h =
 grows s (CommandLine command) h =
     rw h.0 (ap (λ rest. version_text s.scene.version ∷ sites_text s.scene.sites ∷ rest)
     (ap (λ rest. setup_texts s.scene.layout [] s.scene.setup ++ rest) (last_more command s.scene.scripts h.1) ∙ sym (append_assoc (setup_texts s.scene.layout [] s.scene.setup) (flat_map script_texts s.scene.scripts) (command_text command ∷ []))))
-grows s ScheduleLine h = let e = early_texts s.section s.scene h.0 in rw (e, h.1) refl
+grows s (ClaimLine text) h =
+    let e = texts_before s h in
+    rw e (ap (λ rest. before_claims s.scene ++ rest) (map_push claim_text s.scene.claims text) ∙ sym (append_assoc (before_claims s.scene) (map claim_text s.scene.claims) (claim_text text ∷ [])))
+grows s ScheduleLine h = let e = texts_before s h.0 in rw (e, h.1) refl
 grows s (StepLine step) h = rw h (ap (λ rest. before_schedule s.scene ++ text_of ScheduleLine ∷ rest) (map_push step_text s.scene.schedule step) ∙ sym (append_assoc (before_schedule s.scene) (text_of ScheduleLine ∷ map step_text s.scene.schedule) (step_text step ∷ [])))
 grows s EndLine h = rw h refl

@@ -1,5 +1,7 @@
 -- The grammar: which lines are refused, and what a text says that is not refused.
-use Rattle.std.specs.Prelude.{◌≡◌, ℕ, ◌+◌, ◌*◌, ◌-◌, ◌^◌, Bool, true, false, not, ◌&&◌, ◌||◌, List, [], ◌∷◌, ◌++◌, length, Option, Some, None, Result, Ok, Err, nat_lt, nat_le, ◌==◌, if◌then◌else◌, codes, slice_index_or, slice_set, count_by}
+use Rattle.std.specs.Prelude.{◌≡◌, ℕ, ◌+◌, ◌*◌, ◌-◌, ◌^◌, Bool, true, false, not, ◌&&◌, ◌||◌, List, [], ◌∷◌, ◌++◌, length, map, Option, Some, None, Result, Ok, Err, nat_lt, nat_le, ◌==◌, if◌then◌else◌, codes, slice_index_or, slice_set, count_by}
+use Rattle.std.specs.List.{list_any}
+use Rattle.std.specs.Option.{is_some}
 use Rattle.std.specs.Str.{bytes_eq}
 use Rattle.chorus_ui.specs.declared.kind.Kind.TheVariants as kinds
 use Rattle.chorus_ui.specs.Name.{same_ui}
@@ -20,14 +22,15 @@ use Rattle.chorus_lines.specs.declared.word.Section.TheVariants as sections
 use Rattle.chorus_lines.specs.declared.word.Reason.{Reason}
 use Rattle.chorus_lines.specs.declared.word.Reason.TheVariants as reasons
 use Rattle.chorus_ui.specs.declared.limits.TheConstants.{SITES_LIMIT, ACTORS_PER_SITE_LIMIT, PORTS_PER_SITE_LIMIT, GROUPS_PER_SITE_LIMIT, BODY_LIMIT, MEMBERS_LIMIT, PENDING_LIMIT}
-use Rattle.chorus_scene.specs.declared.limits.TheConstants.{TEXT_LIMIT, VERSION_ONE_SITES, VERSION_ONE_BODY, SCRIPTS_LIMIT, COMMANDS_LIMIT, STEPS_LIMIT}
+use Rattle.chorus_scene.specs.declared.limits.TheConstants.{TEXT_LIMIT, VERSION_ONE_SITES, VERSION_ONE_BODY, SCRIPTS_LIMIT, COMMANDS_LIMIT, CLAIMS_LIMIT, STEPS_LIMIT}
 use Rattle.chorus_lines.specs.declared.fault.ReadFault.{ReadFault}
 use Rattle.chorus_lines.specs.declared.fault.ReadFault.TheVariants as faults
 use Rattle.chorus_lines.specs.Text.{cut, fields, lines, is_text, is_skipped}
 use Rattle.chorus_lines.specs.Reasons.{reason_number}
+use Rattle.chorus_claims.specs.Shapes.{fault_of}
 use Rattle.chorus_scene.specs.Scene.{Scene, Script}
 use Rattle.chorus_scene.specs.Making.{next_port, next_group, made_after, members_of}
-use Rattle.chorus_scene.specs.Line.{Line, VersionLine, SitesLine, PortLine, GroupLine, MemberLine, ScriptLine, CommandLine, ScheduleLine, StepLine, EndLine, cuts, is_misshapen, line_of}
+use Rattle.chorus_scene.specs.Line.{Line, VersionLine, SitesLine, PortLine, GroupLine, MemberLine, ScriptLine, CommandLine, ClaimLine, ScheduleLine, StepLine, EndLine, cuts, is_misshapen, line_of}
 use Rattle.chorus_lines.specs.Words.{word_of, may_stand}
 
 -- what the lines so far have said, and the section that they came to
@@ -44,6 +47,7 @@ opening l = record {
     sites = 0;
     setup = [];
     scripts = [];
+    claims = [];
     schedule = [];
   };
 }
@@ -65,6 +69,22 @@ last_script scripts = script_at (length scripts) scripts
 abbrev pub is_step : ℕ → step.Step → Bool
 is_step k (steps.Step n) = n == k
 is_step k _ = false
+
+-- of each script how many commands it has
+abbrev pub command_counts : List Script → List ℕ
+command_counts scripts = map (λ (script : Script). length script.commands) scripts
+
+-- why the text is no claim of the scenario; none where it is one
+abbrev pub claim_fault : Scene → List ℕ → Option Reason
+claim_fault c text = fault_of c.sites (command_counts c.scripts) text
+
+abbrev pub is_for : Reason → Option Reason → Bool
+is_for reason None = false
+is_for reason (Some other) = reason_number other == reason_number reason
+
+-- one of the claims is spelled so
+abbrev pub is_claimed : List ℕ → List (List ℕ) → Bool
+is_claimed text claims = list_any (bytes_eq text) claims
 
 abbrev pub most_sites : ℕ → ℕ
 most_sites version = if version == 1 then VERSION_ONE_SITES else SITES_LIMIT
@@ -101,6 +121,16 @@ step_is_beyond steps.Drain = false
 abbrev pub last_is_full : Scene → Bool
 last_is_full c = nat_le COMMANDS_LIMIT (length (last_script c.scripts).commands)
 
+-- test 5 of a claim: it is none
+abbrev pub is_no_claim : Scene → Line → Bool
+is_no_claim c (ClaimLine text) = is_for reasons.Word (claim_fault c text)
+is_no_claim c _ = false
+
+-- test 6 of a claim: a number, an id or a name in it is not spelled as one
+abbrev pub is_misspelled : Scene → Line → Bool
+is_misspelled c (ClaimLine text) = is_for reasons.Number (claim_fault c text)
+is_misspelled c _ = false
+
 -- test 7: a number or a count is beyond its limit
 abbrev pub is_beyond : Scene → Line → Bool
 is_beyond c (SitesLine n) = (n == 0) || nat_lt c.layout.sites n || nat_lt (most_sites c.version) n
@@ -109,6 +139,7 @@ is_beyond c (GroupLine u) = nat_lt GROUPS_PER_SITE_LIMIT u.number
 is_beyond c (MemberLine group port) = nat_le MEMBERS_LIMIT (length (members_of group c.setup))
 is_beyond c (ScriptLine actor) = nat_le SCRIPTS_LIMIT (length c.scripts)
 is_beyond c (CommandLine command) = last_is_full c || command_is_beyond c.version command
+is_beyond c (ClaimLine text) = is_for reasons.Limit (claim_fault c text) || nat_le CLAIMS_LIMIT (length c.claims)
 is_beyond c (StepLine step) = nat_le STEPS_LIMIT (length c.schedule) || step_is_beyond step
 is_beyond c _ = false
 
@@ -147,20 +178,22 @@ command_is_unknown c (commands.GroupMake site) = is_no_site c site
 command_is_unknown c (commands.Join group port) = is_far c group || is_far c port
 command_is_unknown c (commands.Leave group port) = is_far c group || is_far c port
 
--- test 8: a name or a site is unknown
+-- test 8: a name or a site is unknown; of a claim it is all that is not told before
 abbrev pub names_unknown : Scene → Line → Bool
 names_unknown c (PortLine u actor capacity) = is_far c u || is_no_actor c actor
 names_unknown c (GroupLine u) = is_far c u
 names_unknown c (MemberLine group port) = not (is_known c group) || not (is_known c port)
 names_unknown c (ScriptLine actor) = is_no_actor c actor
 names_unknown c (CommandLine command) = command_is_unknown c command
+names_unknown c (ClaimLine text) = is_some (claim_fault c text)
 names_unknown c _ = false
 
--- test 9: a setup line says again what an earlier one said
+-- test 9: a setup line or a claim says again what an earlier one said
 abbrev pub repeats : Scene → Line → Bool
 repeats c (PortLine u actor capacity) = is_member u (made c)
 repeats c (GroupLine u) = is_member u (made c)
 repeats c (MemberLine group port) = is_member port (members_of group c.setup)
+repeats c (ClaimLine text) = is_claimed text c.claims
 repeats c _ = false
 
 -- test 10: the name is not the one that the making gives
@@ -194,15 +227,17 @@ abbrev pub known : {A B : Type 0} → Option A → Reason → (A → Result B Re
 known None reason goes_on = Err reason
 known (Some a) reason goes_on = goes_on a
 
--- tests 7 to 11, of a line that is spelled as it should be
+-- tests 7 to 11, of a line that is spelled as it should be; of a claim 5 and 6 too
 abbrev pub judge_line : Scene → Line → Result Line Reason
 judge_line c line =
-    unless (is_beyond c line) reasons.Limit
+    unless (is_no_claim c line) reasons.Word
+    (unless (is_misspelled c line) reasons.Number
+    (unless (is_beyond c line) reasons.Limit
     (unless (names_unknown c line) reasons.Unknown
     (unless (repeats c line) reasons.Twice
     (unless (is_not_given c line) reasons.Order
     (unless (is_unscheduled c line) reasons.Schedule
-    (Ok line)))))
+    (Ok line)))))))
 
 -- tests 5 and 6, and those behind them
 abbrev pub judge_fields : Scene → Word → List (List ℕ) → Result Line Reason
@@ -222,7 +257,8 @@ judge_word s (word, rest) =
 abbrev pub judge_head : List ℕ → Result Line Reason
 judge_head bytes =
     if bytes_eq bytes (codes "chorus 1") then Ok (VersionLine 1)
-    else if bytes_eq bytes (codes "chorus 2") then Ok (VersionLine 2) else Err reasons.Header
+    else if bytes_eq bytes (codes "chorus 2") then Ok (VersionLine 2)
+    else if bytes_eq bytes (codes "chorus 3") then Ok (VersionLine 3) else Err reasons.Header
 
 abbrev pub is_head : Section → Bool
 is_head sections.Head = true
@@ -255,6 +291,10 @@ after s (CommandLine command) = record {
     scripts = slice_set s.scene.scripts (length s.scene.scripts - 1)
         (with_command command (last_script s.scene.scripts));
   };
+}
+after s (ClaimLine text) = record {
+  section = sections.Claims;
+  scene = record s.scene { claims = s.scene.claims ++ text ∷ [] };
 }
 after s ScheduleLine = record { section = sections.Schedule; scene = s.scene }
 after s (StepLine step) = record {

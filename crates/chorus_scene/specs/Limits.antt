@@ -1,6 +1,7 @@
 -- The limits that a scenario keeps, whatever text said it.
-use Rattle.std.specs.Prelude.{◌≡◌, ℕ, ◌≤◌, ◌*◌, Bool, true, not, ◌&&◌, List, [], ◌∷◌, ◌++◌, length, Ok, nat_lt, nat_le, ◌==◌, count_by}
+use Rattle.std.specs.Prelude.{◌≡◌, ℕ, ◌≤◌, ◌<◌, ◌*◌, Bool, true, not, ◌&&◌, List, [], ◌∷◌, ◌++◌, length, Ok, nat_lt, nat_le, ◌==◌, count_by}
 use Rattle.std.specs.List.{list_all}
+use Rattle.std.specs.Option.{is_none}
 use Rattle.chorus_ui.specs.declared.ui.Ui.{Ui}
 use Rattle.chorus_ui.specs.Layout.{has_actor}
 use Rattle.chorus_ui.specs.declared.layout.Layout.{Layout}
@@ -16,10 +17,10 @@ use Rattle.chorus_scene.specs.declared.scenario.SetupLine.{SetupLine}
 use Rattle.chorus_scene.specs.declared.scenario.SetupLine.TheVariants as setups
 use Rattle.chorus_scene.specs.declared.scenario.Step as step
 use Rattle.chorus_scene.specs.declared.scenario.Step.TheVariants as steps
-use Rattle.chorus_scene.specs.declared.limits.TheConstants.{SCRIPTS_LIMIT, COMMANDS_LIMIT, STEPS_LIMIT}
+use Rattle.chorus_scene.specs.declared.limits.TheConstants.{SCRIPTS_LIMIT, COMMANDS_LIMIT, CLAIMS_LIMIT, STEPS_LIMIT}
 use Rattle.chorus_scene.specs.Scene.{Scene, Script}
 use Rattle.chorus_scene.specs.Making.{next_port, next_group, made_after, members_of}
-use Rattle.chorus_scene.specs.Grammar.{most_sites, most_bytes, script_at, is_step, read_scene}
+use Rattle.chorus_scene.specs.Grammar.{most_sites, most_bytes, script_at, is_step, claim_fault, is_claimed, read_scene}
 
 -- one of the sites 1 to n
 abbrev pub is_site : ℕ → ℕ → Bool
@@ -62,9 +63,9 @@ bytes_sent (commands.Call port back body) = body
 bytes_sent (commands.Reply body) = body
 bytes_sent _ = []
 
--- delete is a command of version 2 alone
+-- delete is a command from version 2 on
 abbrev pub is_of_version : ℕ → Command → Bool
-is_of_version version (commands.Delete port) = version == 2
+is_of_version version (commands.Delete port) = nat_le 2 version
 is_of_version version _ = true
 
 abbrev pub command_keeps : Layout → ℕ → ℕ → Command → Bool
@@ -93,6 +94,15 @@ abbrev pub setup_keeps : Layout → ℕ → List SetupLine → List SetupLine �
 setup_keeps l n before [] = true
 setup_keeps l n before (line ∷ lines) = setup_line_keeps l n before line && setup_keeps l n (before ++ line ∷ []) lines
 
+-- the text is a claim of the scenario
+abbrev pub is_claim : Scene → List ℕ → Bool
+is_claim c text = is_none (claim_fault c text)
+
+-- no text stands twice
+abbrev pub none_twice : List (List ℕ) → Bool
+none_twice [] = true
+none_twice (text ∷ texts) = not (is_claimed text texts) && none_twice texts
+
 -- a step, where these steps stand before it: its script has a command left, and its two places differ
 abbrev pub step_keeps : Layout → ℕ → List Script → List step.Step → step.Step → Bool
 step_keeps l n scripts before (steps.Step k) =
@@ -109,13 +119,17 @@ schedule_keeps l n scripts before (step ∷ rest) =
 -- all limits of a scenario
 pub record Keeps (c : Scene) : Type 0 where
   pub version_from_one : 1 ≤ c.version
-  pub version_to_two : c.version ≤ 2
+  pub version_to_three : c.version ≤ 3
   pub sites_from_one : 1 ≤ c.sites
   pub sites_of_layout : c.sites ≤ c.layout.sites
   pub sites_of_version : c.sites ≤ most_sites c.version
   pub setup : setup_keeps c.layout c.sites [] c.setup ≡ true
   pub few_scripts : length c.scripts ≤ SCRIPTS_LIMIT
   pub scripts : list_all (script_keeps c.layout c.version c.sites) c.scripts ≡ true
+  pub claims_from_three : c.version < 3 → c.claims ≡ []
+  pub few_claims : length c.claims ≤ CLAIMS_LIMIT
+  pub claims : list_all (is_claim c) c.claims ≡ true
+  pub claims_once : none_twice c.claims ≡ true
   pub few_steps : length c.schedule ≤ STEPS_LIMIT
   pub schedule : schedule_keeps c.layout c.sites c.scripts [] c.schedule ≡ true
 

@@ -44,6 +44,7 @@ wants words.Group = 1
 wants words.Member = 2
 wants words.Script = 1
 wants (words.Command verb) = verb_wants verb
+wants words.Claim = 1
 wants words.Schedule = 0
 wants words.Step = 1
 wants words.Deliver = 2
@@ -62,9 +63,14 @@ abbrev pub has_body : Word → Bool
 has_body (words.Command verb) = verb_has_body verb
 has_body _ = false
 
--- a body goes to the end of its line, so one field fewer is cut off
+-- whether the last field goes to the end of its line: a body, or a claim
+abbrev pub has_rest : Word → Bool
+has_rest words.Claim = true
+has_rest w = has_body w
+
+-- one field fewer is cut off then
 abbrev pub cuts : Word → ℕ
-cuts w = if has_body w then wants w - 1 else wants w
+cuts w = if has_rest w then wants w - 1 else wants w
 
 abbrev pub field : ℕ → List (List ℕ) → List ℕ
 field i fields = slice_index_or fields i []
@@ -83,6 +89,7 @@ pub data Line : Type 0 where
   MemberLine : Ui → Ui → Line
   ScriptLine : Ui → Line
   CommandLine : Command → Line
+  ClaimLine : List ℕ → Line
   ScheduleLine : Line
   StepLine : step.Step → Line
   EndLine : Line
@@ -150,6 +157,7 @@ line_of words.Member fields =
     with_two MemberLine (name_in kinds.Group (field 0 fields)) (name_in kinds.Port (field 1 fields))
 line_of words.Script fields = option_map ScriptLine (name_in kinds.Actor (field 0 fields))
 line_of (words.Command verb) fields = option_map CommandLine (command_of verb fields)
+line_of words.Claim fields = Some (ClaimLine (field 0 fields))
 line_of words.Schedule fields = Some ScheduleLine
 line_of words.Step fields = option_map (λ n. StepLine (steps.Step n)) (number_in (field 0 fields))
 line_of words.Deliver fields =

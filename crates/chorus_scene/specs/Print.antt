@@ -15,7 +15,7 @@ use Rattle.chorus_scene.specs.declared.scenario.Step.TheVariants as steps
 use Rattle.chorus_lines.specs.Body.{body_text}
 use Rattle.chorus_scene.specs.Scene.{Scene, Script}
 use Rattle.chorus_scene.specs.Making.{makes, name_said}
-use Rattle.chorus_scene.specs.Line.{Line, VersionLine, SitesLine, PortLine, GroupLine, MemberLine, ScriptLine, CommandLine, ScheduleLine, StepLine, EndLine}
+use Rattle.chorus_scene.specs.Line.{Line, VersionLine, SitesLine, PortLine, GroupLine, MemberLine, ScriptLine, CommandLine, ClaimLine, ScheduleLine, StepLine, EndLine}
 use Rattle.chorus_scene.specs.Grammar.{read_scene}
 
 -- fields, each behind one space
@@ -79,6 +79,9 @@ setup_texts l made (line ∷ lines) = setup_text l made line ∷ setup_texts l (
 abbrev pub script_texts : Script → List (List ℕ)
 script_texts s = actor_text s.actor ∷ map command_text s.commands
 
+abbrev pub claim_text : List ℕ → List ℕ
+claim_text text = codes "claim" ++ behind (text ∷ [])
+
 abbrev pub step_text : step.Step → List ℕ
 step_text (steps.Step k) = codes "step" ++ behind (decimal k ∷ [])
 step_text (steps.Deliver from to) = codes "deliver" ++ behind (decimal from ∷ decimal to ∷ [])
@@ -93,14 +96,19 @@ text_of (GroupLine u) = group_text u
 text_of (MemberLine group port) = member_text group port
 text_of (ScriptLine actor) = actor_text actor
 text_of (CommandLine command) = command_text command
+text_of (ClaimLine text) = claim_text text
 text_of ScheduleLine = codes "schedule"
 text_of (StepLine step) = step_text step
 text_of EndLine = codes "end"
 
+-- the lines before the claims
+abbrev pub before_claims : Scene → List (List ℕ)
+before_claims c =
+    version_text c.version ∷ sites_text c.sites ∷ (setup_texts c.layout [] c.setup ++ flat_map script_texts c.scripts)
+
 -- the lines before the schedule
 abbrev pub before_schedule : Scene → List (List ℕ)
-before_schedule c =
-    version_text c.version ∷ sites_text c.sites ∷ (setup_texts c.layout [] c.setup ++ flat_map script_texts c.scripts)
+before_schedule c = before_claims c ++ map claim_text c.claims
 
 -- LF behind each line but the last
 unfoldable pub joined : List (List ℕ) → List ℕ

@@ -25,7 +25,7 @@ use Rattle.chorus_lines.specs.Text.{fields}
 use Rattle.chorus_scene.specs.Scene.{Scene}
 use Rattle.chorus_scene.specs.Making.{stride, next_name, shares_place, makes, made_after, name_said, names_said, members_of}
 use Rattle.chorus_scene.specs.Line.{Line, CommandLine, cuts}
-use Rattle.chorus_scene.specs.Grammar.{State, judge_fields, then_after, is_step}
+use Rattle.chorus_scene.specs.Grammar.{State, command_counts, judge_fields, then_after, is_step}
 
 -- where the table of a setup counts what one place has given: four places for each site, ports and then groups
 abbrev pub count_at : Layout → Kind → ℕ → ℕ → ℕ
@@ -85,6 +85,7 @@ scene_of r = record {
   sites = r.sites;
   setup = r.setup.lines.items;
   scripts = r.scripts.items;
+  claims = r.claims.items;
   schedule = r.schedule.items;
 }
 
@@ -133,6 +134,7 @@ pub record Stands (r : Reader) : Type 0 where
   pub used_len : length r.used.items ≡ length r.scripts.items
   pub used : (k : ℕ) → k < length r.scripts.items → slice_index r.used.items k
       ≡ count_by (is_step (k + 1)) r.schedule.items
+  pub counts : r.counts.items ≡ command_counts r.scripts.items
   pub early : is_early r.section ≡ true → r.schedule.items ≡ []
   pub some_script : is_in_scripts r.section ≡ true → 0 < length r.scripts.items
   pub few_scripts : length r.scripts.items ≤ SCRIPTS_LIMIT

@@ -1,5 +1,5 @@
 -- What a scenario says.
-use Rattle.std.specs.Prelude.{ℕ, List}
+use Rattle.std.specs.Prelude.{ℕ, List, []}
 use Rattle.chorus_ui.specs.declared.ui.Ui.{Ui}
 use Rattle.chorus_ui.specs.declared.layout.Layout.{Layout}
 use Rattle.chorus_entry.specs.declared.command.Command.{Command}
@@ -11,16 +11,17 @@ pub record Script : Type 0 where
   pub actor : Ui
   pub commands : List Command
 
--- a scenario, with the layout for which it was read
+-- a scenario, with the layout for which it was read; claims are kept as they are spelled
 pub record Scene : Type 0 where
   pub layout : Layout
   pub version : ℕ
   pub sites : ℕ
   pub setup : List SetupLine
   pub scripts : List Script
+  pub claims : List (List ℕ)
   pub schedule : List Step
 
--- the scenario of these parts
+-- the scenario of these parts, which claims nothing
 abbrev pub scene_with : Layout → ℕ → ℕ → List SetupLine → List Script → List Step → Scene
 scene_with layout version sites setup scripts schedule = record {
   layout = layout;
@@ -28,5 +29,10 @@ scene_with layout version sites setup scripts schedule = record {
   sites = sites;
   setup = setup;
   scripts = scripts;
+  claims = [];
   schedule = schedule;
 }
+
+-- the scenario with these claims
+abbrev pub with_claims : List (List ℕ) → Scene → Scene
+with_claims claims c = record c { claims = claims }

@@ -15,5 +15,8 @@ pub const SCRIPTS_LIMIT: usize = 16;
 /// The most commands of a script.
 pub const COMMANDS_LIMIT: usize = 4_096;
 
+/// The most claims of a scenario.
+pub const CLAIMS_LIMIT: usize = 64;
+
 /// The most steps of a schedule.
 pub const STEPS_LIMIT: usize = 131_072;

@@ -10,12 +10,13 @@ ghost use Rattle.chorus_scene.specs.declared.limits.TheConstants.{SCRIPTS_LIMIT}
 ghost use Rattle.chorus_scene.specs.Limits.{Keeps};
 ghost use Rattle.chorus_scene.specs.Reader.{Gives, Stands, IsMemory, read_with, state_of, scene_of};
 
+mod claims;
 mod commands;
 mod setup_lines;
 mod steps;
 
 use crate::limits::{SCRIPTS_LIMIT, VERSION_ONE_SITES};
-use crate::scenario::{Scenario, Script, Step};
+use crate::scenario::{ClaimText, Scenario, Script, Step};
 use crate::setup::Setup;
 use chorus_lines::fields::{none, one};
 use chorus_lines::{
@@ -33,7 +34,10 @@ pub(crate) struct Reader {
     pub(crate) sites: u16,
     pub(crate) setup: Setup,
     pub(crate) scripts: Vec<Script>,
+    pub(crate) claims: Vec<ClaimText>,
     pub(crate) schedule: Vec<Step>,
+    /// How many commands each script has.
+    pub(crate) counts: Vec<u32>,
     /// How many steps of each script the schedule has.
     pub(crate) used: Vec<u32>,
 }
@@ -52,7 +56,9 @@ impl Reader {
             sites: 0,
             setup,
             scripts: Vec::new(alloc),
+            claims: Vec::new(alloc),
             schedule: Vec::new(alloc),
+            counts: Vec::new(alloc),
             used: Vec::new(alloc),
         })
     }
@@ -71,6 +77,7 @@ impl Reader {
             self.sites,
             self.setup,
             self.scripts,
+            self.claims,
             self.schedule,
         )
     }
@@ -101,7 +108,8 @@ impl Reader {
         self.word_line(alloc, word, rest)
     }
 
-    /// Reads the first line of a scenario text that is not skipped: `chorus 1` or `chorus 2`, else a fault of Header.
+    /// Reads the first line of a scenario text that is not skipped: `chorus 1`, `chorus 2` or `chorus 3`, else a fault of
+    /// Header.
     fn head_line(&mut self, bytes: &[u8]) -> Result<(), Stop>
         requires stands { Stands self.old }
         requires head { self.old.section ≡ Section.Head }
@@ -113,6 +121,8 @@ impl Reader {
             self.version = 1;
         } else if bytes == b"chorus 2".as_slice() {
             self.version = 2;
+        } else if bytes == b"chorus 3".as_slice() {
+            self.version = 3;
         } else {
             return Err(Stop::Fault(Reason::Header));
         }
@@ -136,6 +146,7 @@ impl Reader {
             Word::Member => self.member_line(rest),
             Word::Script => self.script_line(alloc, rest),
             Word::Command(verb) => self.command_line(alloc, verb, rest),
+            Word::Claim => self.claim_line(alloc, rest),
             Word::Schedule => self.schedule_line(rest),
             Word::Step => self.step_line(rest),
             Word::Deliver => self.deliver_line(rest),
@@ -205,6 +216,7 @@ impl Reader {
         ensures stands { OnOk result (Stands self.new) }
         ensures memory { IfErr result IsMemory }
     {
+        self.counts.push(0)?;
         self.used.push(0)?;
         self.scripts.push(Script::new(alloc, actor))?;
         self.section = Section::Scripts;

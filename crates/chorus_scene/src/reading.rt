@@ -12,7 +12,7 @@ use chorus_ui::Layout;
 use memchr::memchr;
 use std::alloc::Global;
 
-/// Reads a scenario text, of either version, for a layout.
+/// Reads a scenario text, of any version, for a layout.
 ///
 /// Ok is the scenario that the text says. A text that says none is refused by its first line that fails a test, with the
 /// reason of the first test that it fails; one that is too long is refused by [`TOO_LONG`]. What was read is dropped then.

@@ -1,6 +1,6 @@
 //! Scenarios: what a text says.
 
-ghost use Rattle.std.specs.Prelude.{◌≡◌, ◌≤◌, [], OnOk};
+ghost use Rattle.std.specs.Prelude.{◌≡◌, ◌≤◌, [], OnOk, IfOk};
 
 use crate::setup::Setup;
 use chorus_entry::Command;
@@ -81,6 +81,37 @@ impl Script {
     }
 }
 
+/// A claim of a scenario, as it is spelled behind `claim`: something to be checked.
+#[derive(Drop)]
+pub struct ClaimText {
+    text: Vec<u8>,
+}
+
+impl Model for ClaimText {
+    ghost use Rattle.std.specs.Prelude.{ℕ, List};
+
+    ghost Value = { List ℕ };
+
+    ghost view = { λ c. c.text.items };
+}
+
+impl ClaimText {
+    /// The bytes of a claim, without the word `claim` and the space behind it.
+    pub fn text(&self) -> &[u8]
+        ensures { result.now ≡ self.now }
+    {
+        self.text.as_slice()
+    }
+
+    /// The claim that is spelled so.
+    pub(crate) fn new(alloc: Global, text: &[u8]) -> Result<ClaimText, AllocError>
+        ensures { IfOk result (λ claim. claim ≡ text.now) }
+    {
+        let text = Vec::from_slice(alloc, text)?;
+        Ok(ClaimText { text })
+    }
+}
+
 /// What a scenario text says, with the layout for which it was read. Only reading makes one.
 #[derive(Drop)]
 pub struct Scenario {
@@ -91,30 +122,31 @@ pub struct Scenario {
     /// The name that each line of the setup begins with.
     names: Vec<Ui>,
     scripts: Vec<Script>,
+    claims: Vec<ClaimText>,
     schedule: Vec<Step>,
 }
 
 impl Model for Scenario {
     ghost use Rattle.std.specs.Prelude.{◌≡◌, []};
-    ghost use Rattle.chorus_scene.specs.Scene.{Scene, scene_with};
+    ghost use Rattle.chorus_scene.specs.Scene.{Scene, scene_with, with_claims};
     ghost use Rattle.chorus_scene.specs.Making.{names_said};
     ghost use Rattle.chorus_scene.specs.Print.{IsReadAgain};
     ghost use Rattle.chorus_scene.specs.Limits.{Keeps};
 
     ghost Value = { Scene };
 
-    ghost view = { λ s.
-        scene_with s.layout s.version s.sites s.setup.items s.scripts.items s.schedule.items };
+    ghost view = { λ s. with_claims s.claims.items
+        (scene_with s.layout s.version s.sites s.setup.items s.scripts.items s.schedule.items) };
 
     ghost invariant = { λ s. (s.names.items ≡ names_said s.layout [] s.setup.items)
-        × IsReadAgain
-        (scene_with s.layout s.version s.sites s.setup.items s.scripts.items s.schedule.items)
-        × Keeps
-        (scene_with s.layout s.version s.sites s.setup.items s.scripts.items s.schedule.items) };
+        × IsReadAgain (with_claims s.claims.items
+        (scene_with s.layout s.version s.sites s.setup.items s.scripts.items s.schedule.items))
+        × Keeps (with_claims s.claims.items
+        (scene_with s.layout s.version s.sites s.setup.items s.scripts.items s.schedule.items)) };
 }
 
 impl Scenario {
-    ghost use Rattle.chorus_scene.specs.Scene.{scene_with};
+    ghost use Rattle.chorus_scene.specs.Scene.{scene_with, with_claims};
     ghost use Rattle.chorus_scene.specs.Making.{names_said};
     ghost use Rattle.chorus_scene.specs.Print.{IsReadAgain};
     ghost use Rattle.chorus_scene.specs.Limits.{Keeps};
@@ -129,10 +161,10 @@ impl Scenario {
         self.layout
     }
 
-    /// The version of a scenario's text: 1 or 2.
+    /// The version of a scenario's text: 1, 2 or 3.
     pub fn version(&self) -> u8
         ensures value { result ≡ self.now.version }
-        ensures one_or_two { (1 ≤ result) × (result ≤ 2) }
+        ensures one_to_three { (1 ≤ result) × (result ≤ 3) }
     {
         self.version
     }
@@ -158,6 +190,14 @@ impl Scenario {
         self.scripts.as_slice()
     }
 
+    /// The claims, in the order of the text; at most 64, and none where the version is 1 or 2. Claim k stands at k - 1. Each is a
+    /// claim of the scenario, and none stands twice.
+    pub fn claims(&self) -> &[ClaimText]
+        ensures { result.now ≡ self.now.claims }
+    {
+        self.claims.as_slice()
+    }
+
     /// The steps of a scenario's schedule, in the order of the text; at most 131,072.
     pub fn schedule(&self) -> &[Step]
         ensures { result.now ≡ self.now.schedule }
@@ -180,15 +220,16 @@ impl Scenario {
         sites: u16,
         setup: Setup,
         scripts: Vec<Script>,
+        claims: Vec<ClaimText>,
         schedule: Vec<Step>,
     ) -> Scenario
         requires tables { IsSetup layout setup }
-        requires again { IsReadAgain
+        requires again { IsReadAgain (with_claims claims.items
+            (scene_with layout version sites setup.lines.items scripts.items schedule.items)) }
+        requires keeps { Keeps (with_claims claims.items
+            (scene_with layout version sites setup.lines.items scripts.items schedule.items)) }
+        ensures { result ≡ with_claims claims.items
             (scene_with layout version sites setup.lines.items scripts.items schedule.items) }
-        requires keeps { Keeps
-            (scene_with layout version sites setup.lines.items scripts.items schedule.items) }
-        ensures { result
-            ≡ scene_with layout version sites setup.lines.items scripts.items schedule.items }
     {
         Scenario {
             layout,
@@ -197,6 +238,7 @@ impl Scenario {
             setup: setup.lines,
             names: setup.names,
             scripts,
+            claims,
             schedule,
         }
     }

@@ -4,3 +4,4 @@ pub mod Reporting
 pub mod Singles
 pub mod More
 pub mod Telling
+pub mod Judging

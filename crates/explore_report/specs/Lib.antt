@@ -1,5 +1,6 @@
 pub mod Differences
 pub mod Findings
+pub mod Judgements
 pub mod Lines
 pub mod Reports
 pub mod Singles

@@ -92,7 +92,8 @@ impl Findings {
         requires sums { HaveSums self.now.items.items }
         requires sum { sum ≡ sum_from 0 text.now }
         ensures some { IfSome result (λ index. (index < length self.now.items.items)
-            × ((d : Finding) → (slice_index_or self.now.items.items index d).text.items ≡ text.now)) }
+            × ((d : Finding) →
+            (slice_index_or self.now.items.items index d).text.items ≡ text.now)) }
         ensures none { IsNone result
             → All (λ (f : Finding). f.text.items ≢ text.now) self.now.items.items }
     {

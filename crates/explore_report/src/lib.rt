@@ -6,7 +6,8 @@
 //! facts of `law_explore`, without the numbers that only tell when. [`Findings`] has each outcome once, with how many histories come
 //! to it and the first of them, and [`report`] writes exactly the bytes of `report_text`. That the single facts of that text are
 //! those of the outcomes, none made up and none missing, is the law [`single_facts_tell_all_outcomes`]; that of each outcome the
-//! lines that are in all of them and its others are told, and no other, is [`differences_tell_all_outcomes`].
+//! lines that are in all of them and its others are told, and no other, is [`differences_tell_all_outcomes`]. [`judge_all`] keeps of
+//! each claim the first history that does not meet it, and no outcome else.
 //!
 //! Begin with `specs/Facts.antt`, a line for each fact, and `specs/Outcomes.antt`, the lines as they are told from an end; then
 //! [`Findings`], and `specs/Reports.antt`, the text.
@@ -15,6 +16,7 @@
 mod explored;
 mod facts;
 mod findings;
+mod judgements;
 mod laws;
 mod lines;
 mod outcomes;
@@ -23,6 +25,7 @@ mod text;
 pub use explored::Explored;
 pub use facts::push_answered;
 pub use findings::{Finding, Findings};
+pub use judgements::{Judgement, have_all_failed, judge_all, not_yet_judged};
 pub use laws::{differences_tell_all_outcomes, single_facts_tell_all_outcomes};
 pub use outcomes::{is_stale_at, push_all_ports, push_messages, verdict_at};
-pub use text::report;
+pub use text::{push_count, push_steps, report};

@@ -294,8 +294,8 @@ fn is_named(outcome: u64, facts: &[Told<'_>]) -> bool
     false
 }
 
-/// Appends the moves as the steps of a schedule.
-fn push_steps(moves: &[Move], text: &mut Vec<u8>) -> Result<(), AllocError>
+/// Appends the moves as the steps of a schedule. After an error a part of it may stand there.
+pub fn push_steps(moves: &[Move], text: &mut Vec<u8>) -> Result<(), AllocError>
     ensures { OnOk result (text.new.items ≡ text.old.items ++ flat_map step_line moves.now) }
 {
     for mv in moves {
@@ -332,8 +332,8 @@ fn push_limit(is_cut: bool, bound: u64, text: &mut Vec<u8>) -> Result<(), AllocE
     }
 }
 
-/// Appends the line of the report that has the word and the number.
-fn push_count(word: &str, number: u64, text: &mut Vec<u8>) -> Result<(), AllocError>
+/// Appends the line that has the word and the number. After an error a part of it may stand there.
+pub fn push_count(word: &str, number: u64, text: &mut Vec<u8>) -> Result<(), AllocError>
     ensures { OnOk result (text.new.items
         ≡ text.old.items ++ count_line word.now number) }
 {

@@ -18,8 +18,8 @@ use Rattle.chorus_scene.specs.declared.limits.TheConstants.{TEXT_LIMIT, VERSION_
 use Rattle.chorus_lines.specs.Text.{cut, lines, is_text, is_skipped}
 use Rattle.chorus_scene.specs.Scene.{Scene}
 use Rattle.chorus_scene.specs.Making.{next_port, next_group, makes, made_after}
-use Rattle.chorus_scene.specs.Line.{Line, VersionLine, SitesLine, PortLine, GroupLine, MemberLine, ScriptLine, CommandLine, ScheduleLine, StepLine, EndLine}
-use Rattle.chorus_scene.specs.Grammar.{State, opening, made, most_sites, is_beyond, command_is_unknown, names_unknown, repeats, is_not_given, cannot_go, is_unscheduled, is_far, judge_line, judge_word, judge_head, is_head, judge_bytes, after, then_after, next, read_scene}
+use Rattle.chorus_scene.specs.Line.{Line, VersionLine, SitesLine, PortLine, GroupLine, MemberLine, ScriptLine, CommandLine, ClaimLine, ScheduleLine, StepLine, EndLine}
+use Rattle.chorus_scene.specs.Grammar.{State, opening, made, most_sites, is_no_claim, is_misspelled, is_beyond, command_is_unknown, names_unknown, repeats, is_not_given, cannot_go, is_unscheduled, is_far, judge_line, judge_word, judge_head, is_head, judge_bytes, after, then_after, next, read_scene}
 use Rattle.chorus_scene.specs.Laws.{Pass}
 use Rattle.chorus_scene.proofs.Law.{Tidy, Said, line_said, inv_text, inv_judge}
 use Rattle.chorus_scene.proofs.Order.{accepted}
@@ -65,6 +65,32 @@ module _ (n : ℕ) (eight : 8 ≤ n) where
         go false true false false e f g = absurd (below n eight g e)
         go false false true false e f g = absurd (below c.layout.sites wide g f)
 
+    claim-same : (x : Line) → is_no_claim (scene_on n c) x ≡ is_no_claim c x
+    claim-same (ClaimLine text) = refl
+    claim-same (SitesLine m) = refl
+    claim-same (VersionLine v) = refl
+    claim-same (PortLine u actor capacity) = refl
+    claim-same (GroupLine u) = refl
+    claim-same (MemberLine group port) = refl
+    claim-same (ScriptLine actor) = refl
+    claim-same (CommandLine command) = refl
+    claim-same ScheduleLine = refl
+    claim-same (StepLine step) = refl
+    claim-same EndLine = refl
+
+    spelled-same : (x : Line) → is_misspelled (scene_on n c) x ≡ is_misspelled c x
+    spelled-same (ClaimLine text) = refl
+    spelled-same (SitesLine m) = refl
+    spelled-same (VersionLine v) = refl
+    spelled-same (PortLine u actor capacity) = refl
+    spelled-same (GroupLine u) = refl
+    spelled-same (MemberLine group port) = refl
+    spelled-same (ScriptLine actor) = refl
+    spelled-same (CommandLine command) = refl
+    spelled-same ScheduleLine = refl
+    spelled-same (StepLine step) = refl
+    spelled-same EndLine = refl
+
     beyond-same : (x : Line) → is_beyond (scene_on n c) x ≡ is_beyond c x
     beyond-same (SitesLine m) =
         ap (λ v. (m == 0) || nat_lt n m || nat_lt (most_sites v) m) one ∙ most-same m ∙ sym (ap (λ v. (m == 0) || nat_lt c.layout.sites m || nat_lt (most_sites v) m) one)
@@ -74,6 +100,7 @@ module _ (n : ℕ) (eight : 8 ≤ n) where
     beyond-same (MemberLine group port) = refl
     beyond-same (ScriptLine actor) = refl
     beyond-same (CommandLine command) = refl
+    beyond-same (ClaimLine text) = refl
     beyond-same ScheduleLine = refl
     beyond-same (StepLine step) = refl
     beyond-same EndLine = refl
@@ -102,6 +129,7 @@ module _ (n : ℕ) (eight : 8 ≤ n) where
     unknown-same (MemberLine group port) =
         ap (λ (names : List Ui). not (not (is_far c group) && is_member group names) || not (not (is_far c port) && is_member port names)) made-is
     unknown-same (CommandLine command) = command-same command
+    unknown-same (ClaimLine text) = refl
     unknown-same (SitesLine m) = refl
     unknown-same (VersionLine v) = refl
     unknown-same (PortLine u actor capacity) = refl
@@ -116,6 +144,7 @@ module _ (n : ℕ) (eight : 8 ≤ n) where
     repeats-same (GroupLine u) = ap (is_member u) made-is
     repeats-same (MemberLine group port) = refl
     repeats-same (CommandLine command) = refl
+    repeats-same (ClaimLine text) = refl
     repeats-same (SitesLine m) = refl
     repeats-same (VersionLine v) = refl
     repeats-same (ScriptLine actor) = refl
@@ -128,6 +157,7 @@ module _ (n : ℕ) (eight : 8 ≤ n) where
     given-same (GroupLine u) = ap (λ (names : List Ui). not (same_ui u (next_group c.layout u.site names))) made-is
     given-same (MemberLine group port) = refl
     given-same (CommandLine command) = refl
+    given-same (ClaimLine text) = refl
     given-same (SitesLine m) = refl
     given-same (VersionLine v) = refl
     given-same (ScriptLine actor) = refl
@@ -146,6 +176,7 @@ module _ (n : ℕ) (eight : 8 ≤ n) where
     unscheduled-same (GroupLine u) = refl
     unscheduled-same (MemberLine group port) = refl
     unscheduled-same (CommandLine command) = refl
+    unscheduled-same (ClaimLine text) = refl
     unscheduled-same (SitesLine m) = refl
     unscheduled-same (VersionLine v) = refl
     unscheduled-same (ScriptLine actor) = refl
@@ -153,7 +184,7 @@ module _ (n : ℕ) (eight : 8 ≤ n) where
     unscheduled-same EndLine = refl
 
     line-same : (x : Line) → judge_line (scene_on n c) x ≡ judge_line c x
-    line-same x = rw (beyond-same x, unknown-same x, repeats-same x, given-same x, unscheduled-same x) refl
+    line-same x = rw (claim-same x, spelled-same x, beyond-same x, unknown-same x, repeats-same x, given-same x, unscheduled-same x) refl
 
     judge-same : judge_line (scene_on n c) ≡ judge_line c
     judge-same = λ i x. line-same x i
@@ -171,6 +202,7 @@ module _ (n : ℕ) (eight : 8 ≤ n) where
   after-on s (MemberLine group port) = refl
   after-on s (ScriptLine actor) = refl
   after-on s (CommandLine command) = refl
+  after-on s (ClaimLine text) = refl
   after-on s ScheduleLine = refl
   after-on s (StepLine step) = refl
   after-on s EndLine = refl
@@ -208,6 +240,7 @@ head-gone s (GroupLine u) h f = (refl, refl)
 head-gone s (MemberLine group port) h f = (refl, refl)
 head-gone s (ScriptLine actor) h f = (refl, refl)
 head-gone s (CommandLine command) h f = (refl, refl)
+head-gone s (ClaimLine text) h f = (refl, refl)
 head-gone s ScheduleLine h f = (refl, refl)
 head-gone s (StepLine step) h f = (refl, refl)
 head-gone s EndLine h f = (refl, refl)
@@ -220,6 +253,7 @@ layout-kept s (GroupLine u) = refl
 layout-kept s (MemberLine group port) = refl
 layout-kept s (ScriptLine actor) = refl
 layout-kept s (CommandLine command) = refl
+layout-kept s (ClaimLine text) = refl
 layout-kept s ScheduleLine = refl
 layout-kept s (StepLine step) = refl
 layout-kept s EndLine = refl
@@ -275,5 +309,5 @@ read-on n eight l text c wide h one =
     let p = inv_judge 1 (opening l) (lines text) c i.1 in
     let t = p.0 in
     let version : t.scene.version ≡ 1 = ap (λ (z : Scene). z.version) p.3 ∙ one in
-    let pass = pass-on n eight (opening l) t (lines text) wide (refl, refl, refl) p.1 version in
+    let pass = pass-on n eight (opening l) t (lines text) wide (refl, refl, refl, refl) p.1 version in
     accepted (layout_on n l) text (state_on n t) (short (length text) i.0) pass p.2 ∙ ap (λ (z : Scene). Ok (scene_on n z)) p.3

@@ -1,5 +1,6 @@
 //! The laws of what is replayed.
 
+ghost use Rattle.law_replay.specs.Claims.{ClaimsAreReadOver};
 ghost use Rattle.law_replay.specs.Shown.{ScheduleShowsItsOutcome};
 ghost use Rattle.law_replay.specs.Version.{ClosesTheSame, MergesTheSame, SaysTheSame, WritesTheSame};
 
@@ -21,4 +22,10 @@ pub fn version_one_stays()
 /// script, each delivery finds its packet, no command is left behind the schedule, and the last drain finds nothing.
 pub fn a_schedule_shows_its_outcome()
     ensures { ScheduleShowsItsOutcome }
+{}
+
+/// Claims are read over: whatever a scenario claims, its replay does the same, one task after the other, and its race, which is explored,
+/// begins at the same position with the same commands. The law makes no call.
+pub fn claims_are_read_over()
+    ensures { ClaimsAreReadOver }
 {}

@@ -1,5 +1,5 @@
-//! Laws of what is replayed: a text of version 1 is replayed the same on 8 and on 16 sites of one place each, and a schedule that is made of
-//! the moves of a whole history, replayed, leaves what they come to.
+//! Laws of what is replayed: a text of version 1 is replayed the same on 8 and on 16 sites of one place each, a schedule that is made of
+//! the moves of a whole history, replayed, leaves what they come to, and claims are read over.
 //!
 //! By the first, [`version_one_stays`], who wrote a scenario of version 1 gets the same bytes from `replay` on either. Its proofs speak of
 //! any layout and of more sites, but for the last file: an event does on more sites what it does on fewer, where all names are of sites that
@@ -12,4 +12,4 @@
 
 mod laws;
 
-pub use laws::{a_schedule_shows_its_outcome, version_one_stays};
+pub use laws::{a_schedule_shows_its_outcome, claims_are_read_over, version_one_stays};

@@ -114,7 +114,7 @@ chorus 1;sites 1;schedule;deliver 1 1|4 10
 const IN_THEIR_ORDER: &str = "\
 ;# a$;chorus 1|2 8
 ;  ;chorus 1|2 1
-# a;;chorus 3|3 1
+# a;;chorus 4|3 1
 chorus 1;sites 2;  |3 2
 chorus 1;sites 2;port 9.p.1 9.a.9 65|3 6
 chorus 1;sites 2;port 1.g.1 1.a.1 65|3 3

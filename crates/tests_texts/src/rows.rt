@@ -1,7 +1,7 @@
 //! What reads the rows of all tests of scenario texts, those in `scenarios`, `refused` and `limits`.
 //!
-//! A row has a text, in which `;` stands for the end of a line and `$` for the byte 255, then `|`, and what is told of it: the line
-//! and the reason for which it is refused, or `read`.
+//! A row has a text, in which `;` stands for the end of a line, `!` for `|` and `$` for the byte 255, then `|`, and what is told of
+//! it: the line and the reason for which it is refused, or `read`.
 
 use chorus_scene::{ReadFault, SceneFault, read};
 use chorus_ui::Layout;
@@ -33,6 +33,7 @@ pub(crate) fn repeated(
 fn byte_of(c: u8) -> u8 {
     match c {
         b';' => b'\n',
+        b'!' => b'|',
         b'$' => 255,
         _ => c,
     }

@@ -18,13 +18,25 @@ fn printed(rt: &impl Abort, alloc: Global, layout: Layout, text: &[u8]) -> Vec<u
 }
 
 /// Asserts that the text is read, and the scenario that it says is printed as the other.
-fn assert_prints(rt: &impl Abort, alloc: Global, layout: Layout, text: &[u8], want: &[u8]) {
+pub(crate) fn assert_prints(
+    rt: &impl Abort,
+    alloc: Global,
+    layout: Layout,
+    text: &[u8],
+    want: &[u8],
+) {
     let out = printed(rt, alloc, layout, text);
     assert!(rt; out.as_slice() == want);
 }
 
 /// Asserts that a scenario, written as in a row between its head and its end, is printed as it is.
-fn assert_printed_back(rt: &impl Abort, alloc: Global, layout: Layout, head: &str, scenario: &str) {
+pub(crate) fn assert_printed_back(
+    rt: &impl Abort,
+    alloc: Global,
+    layout: Layout,
+    head: &str,
+    scenario: &str,
+) {
     let whole = format!(in alloc; "{scenario};end").expect(rt, "memory");
     let text = behind(rt, alloc, head, whole.as_str());
     assert_prints(rt, alloc, layout, &text, &text);

@@ -1,6 +1,6 @@
 //! The commands of scripts.
 
-ghost use Rattle.std.specs.Prelude.{◌≡◌, ◌<◌, true, length, OnOk, IfErr};
+ghost use Rattle.std.specs.Prelude.{◌≡◌, ◌<◌, true, false, length, OnOk, IfErr};
 ghost use Rattle.std.specs.Option.{option_copied};
 ghost use Rattle.chorus_scene.specs.Grammar.{after, last_is_full, most_bytes};
 ghost use Rattle.chorus_scene.specs.Line.{target_kind, dest_of, CommandLine};
@@ -11,7 +11,7 @@ ghost use Rattle.chorus_scene.specs.Reader.{Gives, Tells, Stands, IsMemory, is_e
 use crate::limits::{COMMANDS_LIMIT, VERSION_ONE_BODY};
 use crate::reader::{Reader, name_in};
 use chorus_entry::{BODY_LIMIT, Command, Dest, PENDING_LIMIT};
-use chorus_lines::fields::{body_alone, none, one, one_and_body, two, two_and_body};
+use chorus_lines::fields::{all, none, one, one_and_body, two, two_and_body};
 use chorus_lines::{
     BEYOND, Reason, Section, Stop, Target, Verb, Word, begins_a_body, body_in, body_len, number_in,
 };
@@ -40,6 +40,7 @@ impl Reader {
     fn push_command(&mut self, command: Command) -> Result<(), Stop>
         requires stands { Stands self.old }
         requires some { 0 < length self.old.scripts.items }
+        requires room { last_is_full (scene_of self.old) ≡ false }
         requires early { is_early self.old.section ≡ true }
         ensures ok { OnOk result
             (state_of self.new ≡ after (state_of self.old) (CommandLine command)) }
@@ -48,6 +49,7 @@ impl Reader {
     {
         let last = self.scripts.len() - 1;
         self.scripts[last].push(command)?;
+        self.counts[last] += 1;
         self.section = Section::Scripts;
         Ok(())
     }
@@ -248,7 +250,7 @@ impl Reader {
         requires some { 0 < length self.now.scripts.items }
         ensures { Tells result (command_with self.now Verb.Reply (option_copied rest.entry)) }
     {
-        let Some(body) = body_alone(rest) else {
+        let Some(body) = all(rest) else {
             return Err(Stop::Fault(Reason::Word));
         };
         if !begins_a_body(self.version, body) {

@@ -19,7 +19,7 @@ returns-then-is_empty-clause-over c =
     let zero = eqb-true c.replace-level.result.len 0 (sym c.is_empty.ensures ∙ c.if-is_empty.true) in
     let long = c.replace-level.result.ok.0 in
     let none : c.replace-level.result.items ≡ [] = nil_from_length c.replace-level.result.items (omega (arith, zero, long)) in
-    search-ends scene c.args.most c.loop-length.length s w (sym (ap (λ v. v.items) c.replace-level.ensures.value) ∙ none)
+    search-ends scene c.args.asked.now c.loop-length.length s w (sym (ap (λ v. v.items) c.replace-level.ensures.value) ∙ none)
 
 pub returns-then-not-branch-clause-over : goal.returns-then-not-branch-clause-over
 returns-then-not-branch-clause-over c =
@@ -33,7 +33,7 @@ returns-then-not-branch-clause-over c =
     let empty = ap (λ v. v.items) c.replace-level.ensures.after ∙ c.new.ensures.items in
     let no_ : c.go_on.result ≡ Ok false = c.in_ok-go_on.was ∙ ap (λ b. Ok b) (grind (arith, c.if-not-branch.true)) in
     let on = c.go_on.ensures.go_on c.loop-length.length merged (subst (λ ks. StandFor (race_of scene) c.loop-length.length ks merged) (sym level) w.stand) in
-    on.cut no_ [] (subst (λ hs. IsWithin scene c.args.most (suc c.loop-length.length) hs t) (sym (append-nil (next_members (race_of scene) merged))) (level-begins scene c.args.most c.loop-length.length s w t (c.loop-length.length + 1) more refl empty))
+    on.cut no_ [] (subst (λ hs. IsWithin scene c.args.asked.now (suc c.loop-length.length) hs t) (sym (append-nil (next_members (race_of scene) merged))) (level-begins scene c.args.asked.now c.loop-length.length s w t (c.loop-length.length + 1) more refl empty))
 
 pub loop-length-preserved : goal.loop-length-preserved
 loop-length-preserved c =
@@ -48,8 +48,8 @@ loop-length-preserved c =
     let yes : c.go_on.result ≡ Ok true = c.in_ok-go_on.was ∙ ap (λ b. Ok b) (grind (arith, c.if-not-branch.false)) in
     let on = c.go_on.ensures.go_on c.loop-length.length merged (subst (λ ks. StandFor (race_of scene) c.loop-length.length ks merged) (sym level) w.stand) in (
       c.in_ok-go_on.ensures.ready,
-      subst (λ (k : ℕ). IsWithin scene c.args.most k [] c.go_on.new.self) (sym more) (on.come yes [] (subst (λ hs. IsWithin scene c.args.most (suc c.loop-length.length) hs t) (sym (append-nil (next_members (race_of scene) merged))) (level-begins scene c.args.most c.loop-length.length s w t (c.loop-length.length + 1) more refl empty))),
-      subst (λ (k : ℕ). HasCarried (race_of scene) k c.go_on.new.self.explored) (sym more) (carried-on scene c.args.most c.loop-length.length s w c.loop-length.invariant.2 c.go_on.new.self.explored
+      subst (λ (k : ℕ). IsWithin scene c.args.asked.now k [] c.go_on.new.self) (sym more) (on.come yes [] (subst (λ hs. IsWithin scene c.args.asked.now (suc c.loop-length.length) hs t) (sym (append-nil (next_members (race_of scene) merged))) (level-begins scene c.args.asked.now c.loop-length.length s w t (c.loop-length.length + 1) more refl empty))),
+      subst (λ (k : ℕ). HasCarried (race_of scene) k c.go_on.new.self.explored) (sym more) (carried-on scene c.args.asked.now c.loop-length.length s w c.loop-length.invariant.2 c.go_on.new.self.explored
           ((c.go_on.ensures.carries.all yes).0 ∙ ap (λ ks. c.loop-length.search.explored.events + moves_from scene ks) level)),
     )
 
@@ -59,7 +59,7 @@ returns-clause-over c =
     let w = c.loop-length.invariant.1 in
     let last : c.loop-length.length ≡ STEPS_LIMIT = (let a = c.loop-length-test.false in let b = c.loop-length.auto.length-end in omega (arith, a, b)) in
     let long = c.loop-length.search.next.ok.0 in
-    over-by c.args.scenario.now c.args.most c.loop-length.length s w last (not c.is_empty-2.result)
+    over-by c.args.scenario.now c.args.asked.now c.loop-length.length s w last (not c.is_empty-2.result)
     (λ e.
     (let yes : c.is_empty-2.result ≡ true = grind (arith, e) in
     let zero = eqb-true c.loop-length.search.next.len 0 (sym c.is_empty-2.ensures ∙ yes) in
@@ -75,7 +75,7 @@ returns-then-is_empty-clause-carried c =
     let zero = eqb-true c.replace-level.result.len 0 (sym c.is_empty.ensures ∙ c.if-is_empty.true) in
     let long = c.replace-level.result.ok.0 in
     let none : c.replace-level.result.items ≡ [] = nil_from_length c.replace-level.result.items (omega (arith, zero, long)) in
-    carried-all c.args.scenario.now c.args.most c.loop-length.length s c.loop-length.invariant.1 c.loop-length.invariant.2 s.explored refl refl
+    carried-all c.args.scenario.now c.args.asked.now c.loop-length.length s c.loop-length.invariant.1 c.loop-length.invariant.2 s.explored refl refl
     (λ e. sym (ap (λ v. v.items) c.replace-level.ensures.value) ∙ none)
 
 pub returns-then-not-branch-clause-carried : goal.returns-then-not-branch-clause-carried
@@ -86,14 +86,14 @@ returns-then-not-branch-clause-carried c =
     let no_ : c.go_on.result ≡ Ok false = c.in_ok-go_on.was ∙ ap (λ b. Ok b) (grind (arith, c.if-not-branch.true)) in
     let some = c.go_on.ensures.carries.some no_ in
     let more : c.loop-length.length + 1 ≡ suc c.loop-length.length = omega arith in
-    carried-some scene c.args.most c.loop-length.length s c.loop-length.invariant.1 c.loop-length.invariant.2 c.go_on.new.self.explored some.0 (some.1 ∙ more) some.2
+    carried-some scene c.args.asked.now c.loop-length.length s c.loop-length.invariant.1 c.loop-length.invariant.2 c.go_on.new.self.explored some.0 (some.1 ∙ more) some.2
     (subst (λ ks. c.go_on.new.self.explored.events ≤ c.loop-length.search.explored.events + moves_from scene ks) level some.3)
 
 pub returns-clause-carried : goal.returns-clause-carried
 returns-clause-carried c =
     let s = c.loop-length.search in
     let long = c.loop-length.search.next.ok.0 in
-    carried-all c.args.scenario.now c.args.most c.loop-length.length s c.loop-length.invariant.1 c.loop-length.invariant.2 (record s.explored { is_cut = not c.is_empty-2.result }) refl refl
+    carried-all c.args.scenario.now c.args.asked.now c.loop-length.length s c.loop-length.invariant.1 c.loop-length.invariant.2 (record s.explored { is_cut = not c.is_empty-2.result }) refl refl
     (λ e.
     (let yes : c.is_empty-2.result ≡ true = grind (arith, e) in
     let zero = eqb-true c.loop-length.search.next.len 0 (sym c.is_empty-2.ensures ∙ yes) in
@@ -101,4 +101,4 @@ returns-clause-carried c =
 
 pub loop-length-init : goal.loop-length-init
 loop-length-init c =
-    (c.in_ok-search.ensures.ready, c.in_ok-search.ensures.begun c.args.most, none-carried (race_of c.args.scenario.now) c.in_ok-search.search.explored c.in_ok-search.ensures.none)
+    (c.in_ok-search.ensures.ready, c.in_ok-search.ensures.begun, none-carried (race_of c.args.scenario.now) c.in_ok-search.search.explored c.in_ok-search.ensures.none)

@@ -6,4 +6,4 @@ use Rattle.chorus_explore.proofs.level_search.go_over.Given as goal
 
 -- all of the level is come to
 abbrev pub invariant-loop-length : goal.invariant-loop-length
-invariant-loop-length l = IsReady l.scenario l.search × IsWithin l.scenario l.most l.length [] l.search × HasCarried (race_of l.scenario) l.length l.search.explored
+invariant-loop-length l = IsReady l.scenario l.search × IsWithin l.scenario l.asked l.length [] l.search × HasCarried (race_of l.scenario) l.length l.search.explored

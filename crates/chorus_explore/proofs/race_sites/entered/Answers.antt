@@ -9,4 +9,4 @@ returns-in_err-set_up-clause-worn c clock is =
     wears-before c.args.scenario.now _ clock (c.set_up.ensures.worn clock (exit c.from_residual.result c.set_up.result _ p.0 _ p.1 p.2 c.in_err-set_up.was is))
 
 pub returns-clause-ok : goal.returns-clause-ok
-returns-clause-ok c = entered-is c.args.scenario.now (net c.enter.new.sites) c.in_ok-enter.ensures
+returns-clause-ok c = entered-is c.args.scenario.now (net c.enter.new.sites) c.in_ok-enter.ensures.ok

@@ -11,8 +11,8 @@ use Rattle.chorus_explore.specs.Stages.{moves_of, position}
 use Rattle.chorus_explore.proofs.Searching.{come-by, cut-off, stands-on}
 use Rattle.chorus_explore.proofs.level_search.Search.go_by.Goals as goal
 
-pub returns-then-self-most-clause-go_on : goal.returns-then-self-most-clause-go_on
-returns-then-self-most-clause-go_on c = λ n m is.
+pub returns-then-is_enough-clause-go_on : goal.returns-then-is_enough-clause-go_on
+returns-then-is_enough-clause-go_on c = λ n m is.
     let s = c.args.self.now in
     let scene = c.args.scenario.now in
     let ms = shown_by c.args.class.now in
@@ -21,12 +21,12 @@ returns-then-self-most-clause-go_on c = λ n m is.
     let on = stands-on scene n ms c.args.class.now.number m mv is listed in
     record {
       come = λ e. absurd (cc);
-      cut = λ e pending. cut-off scene c.args.most (suc n) s (record s { explored = record s.explored { is_cut = true } }) (going_by mv m.members ++ pending) refl c.if-self-most.true
+      cut = λ e pending. cut-off scene c.args.asked.now (suc n) s (record s { explored = record s.explored { is_cut = true } }) (going_by mv m.members ++ pending) refl (c.is_enough.ensures.enough c.if-is_enough.true)
           (mv ∷ m.shows) on.merged.history on.merged.long (Contains-append_left (going_by mv m.members) pending (mv ∷ m.shows) on.among);
     }
 
-pub returns-then-self-most-clause-carries : goal.returns-then-self-most-clause-carries
-returns-then-self-most-clause-carries c = record { all = λ e. absurd (cc); some = λ e. (refl, refl, omega arith, omega arith) }
+pub returns-then-is_enough-clause-carries : goal.returns-then-is_enough-clause-carries
+returns-then-is_enough-clause-carries c = record { all = λ e. absurd (cc); some = λ e. (refl, refl, omega arith, omega arith) }
 
 pub returns-clause-carries : goal.returns-clause-carries
 returns-clause-carries c =
@@ -51,11 +51,11 @@ returns-clause-go_on c = λ n m is.
     let e = c.stage_there.new.self.explored in
     let t : Search = record c.stage_there.new.self { explored = record e { events = e.events + 1 } } in
     let events : e.events ≡ c.args.self.now.explored.events = ap (λ (x : Explored). x.events) kept.0 in
-    let below = c.if-self-most.false in
+    let below = c.is_enough.ensures.goes_on c.if-is_enough.false in
     record {
-      come = λ yes pending w. c.in_ok-come_to.ensures.come c.args.most (suc n) (with_move mv m)
+      come = λ yes pending w. c.in_ok-come_to.ensures.come (suc n) (with_move mv m)
           (subst (λ k. StandsFor (race_of scene) (suc n) k c.args.class.now.number (with_move mv m)) (sym path) on) pending
-          (come-by scene c.args.most (suc n) c.args.self.now t (going_by mv m.members ++ pending) (ap (λ (x : Explored). x.findings) kept.0) (ap (λ (x : Explored). x.histories) kept.0)
+          (come-by scene c.args.asked.now (suc n) c.args.self.now t (going_by mv m.members ++ pending) (ap (λ (x : Explored). x.findings) kept.0) (ap (λ (x : Explored). x.judged) kept.0) (ap (λ (x : Explored). x.histories) kept.0)
           (omega (arith, events, below)) (ap (λ (x : Explored). x.is_cut) kept.0) (ap (λ (x : Explored). x.bound) kept.0) kept.1 w);
       cut = λ no_. absurd (cc);
     }

@@ -25,8 +25,8 @@ returns-then-not-branch-clause-go_on c = λ n ms stand.
     let s : Search = record c.args.self.now { last = c.take-last.new.self } in
     record {
       come = λ e. absurd (cc);
-      cut = λ e pending w. class-cut scene c.args.most n level ms stand i class at s c.loop-index.self c.go_on_from.new.self (c.loop-index.invariant.2 n ms stand)
-          (on.cut no_) pending (same-within scene c.args.most (suc n) c.args.self.now s (next_members (race_of scene) ms ++ pending) refl refl w);
+      cut = λ e pending w. class-cut scene c.args.asked.now n level ms stand i class at s c.loop-index.self c.go_on_from.new.self (c.loop-index.invariant.2 n ms stand)
+          (on.cut no_) pending (same-within scene c.args.asked.now (suc n) c.args.self.now s (next_members (race_of scene) ms ++ pending) refl refl w);
     }
 
 pub loop-index-preserved : goal.loop-index-preserved
@@ -41,7 +41,7 @@ loop-index-preserved c =
       λ n ms stand.
           (let one = stand-at (race_of scene) n level ms i class stand at in
           let yes : c.go_on_from.result ≡ Ok true = c.in_ok-go_on_from.was ∙ ap (λ b. Ok b) (grind (arith, c.if-not-branch.false)) in
-          class-come scene c.args.most n level ms stand i class at (record c.args.self.now { last = c.take-last.new.self }) c.loop-index.self c.go_on_from.new.self (c.loop-index.invariant.2 n ms stand)
+          class-come scene c.args.asked.now n level ms stand i class at (record c.args.self.now { last = c.take-last.new.self }) c.loop-index.self c.go_on_from.new.self (c.loop-index.invariant.2 n ms stand)
           ((c.go_on_from.ensures.go_on n one.0 one.1.1).come yes)),
       (let yes : c.go_on_from.result ≡ Ok true = c.in_ok-go_on_from.was ∙ ap (λ b. Ok b) (grind (arith, c.if-not-branch.false)) in
           let all = (c.go_on_from.ensures.carries.all yes).0 in
@@ -60,8 +60,8 @@ returns-clause-go_on c = λ n ms stand.
     let passed = flat-all (λ (m : Merged). going_on (next_behind (race_of scene) m.shows) m.members) ms c.loop-index.index (let e = c.loop-index-test.false in omega (arith, all, e)) in
     let s : Search = record c.args.self.now { last = c.take-last.new.self } in
     record {
-      come = λ e pending w. subst (λ hs. Come scene c.args.most (suc n) hs s c.loop-index.self) passed (c.loop-index.invariant.2 n ms stand) pending
-          (same-within scene c.args.most (suc n) c.args.self.now s (next_members (race_of scene) ms ++ pending) refl refl w);
+      come = λ e pending w. subst (λ hs. Come scene c.args.asked.now (suc n) hs s c.loop-index.self) passed (c.loop-index.invariant.2 n ms stand) pending
+          (same-within scene c.args.asked.now (suc n) c.args.self.now s (next_members (race_of scene) ms ++ pending) refl refl w);
       cut = λ e. absurd (cc);
     }
 

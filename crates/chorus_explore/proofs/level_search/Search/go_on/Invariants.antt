@@ -9,5 +9,5 @@ use Rattle.chorus_explore.proofs.level_search.Search.go_on.Given as goal
 -- what goes on from the classes passed has come
 abbrev pub invariant-loop-index : goal.invariant-loop-index
 invariant-loop-index l = IsReady l.scenario l.self × IsReachedIf l.scenario l.last
-    × ((n : ℕ) (ms : List Merged) → StandFor (race_of l.scenario) n l.level ms → Come l.scenario l.most (suc n) (next_members (race_of l.scenario) (take l.index ms)) l.initial.self l.self)
+    × ((n : ℕ) (ms : List Merged) → StandFor (race_of l.scenario) n l.level ms → Come l.scenario l.asked (suc n) (next_members (race_of l.scenario) (take l.index ms)) l.initial.self l.self)
     × (l.self.explored.events ≡ l.initial.self.explored.events + moves_from l.scenario (take l.index l.level)) × (l.self.explored.bound ≡ l.initial.self.explored.bound)

@@ -38,10 +38,10 @@ returns-then-not-branch-clause-go_on c = λ n m is.
     let same = c.stage_there.ensures.kept in
     record {
       come = λ e. absurd (cc);
-      cut = λ e pending w. move-cut scene c.args.most (suc n) moves m.members i mv at s c.loop-index.self c.go_by.new.self (c.loop-index.invariant.2 n m is)
+      cut = λ e pending w. move-cut scene c.args.asked.now (suc n) moves m.members i mv at s c.loop-index.self c.go_by.new.self (c.loop-index.invariant.2 n m is)
           ((c.go_by.ensures.go_on n m is).cut no_) pending
-          (same-within scene c.args.most (suc n) c.args.self.now s (going_on moves m.members ++ pending) same.0 same.1
-          (subst (λ xs. IsWithin scene c.args.most (suc n) (going_on xs m.members ++ pending) c.args.self.now) (sym listed) w));
+          (same-within scene c.args.asked.now (suc n) c.args.self.now s (going_on moves m.members ++ pending) same.0 same.1
+          (subst (λ xs. IsWithin scene c.args.asked.now (suc n) (going_on xs m.members ++ pending) c.args.self.now) (sym listed) w));
     }
 
 pub loop-index-preserved : goal.loop-index-preserved
@@ -56,7 +56,7 @@ loop-index-preserved c =
       c.in_ok-go_by.ensures.ready,
       subst (LeadsThere scene c.args.class.now.moves.items) (sym c.take.ensures.after) tt,
       λ n m is.
-          move-come scene c.args.most (suc n) moves m.members i mv at c.stage_there.new.self c.loop-index.self c.go_by.new.self (c.loop-index.invariant.2 n m is)
+          move-come scene c.args.asked.now (suc n) moves m.members i mv at c.stage_there.new.self c.loop-index.self c.go_by.new.self (c.loop-index.invariant.2 n m is)
           ((c.go_by.ensures.go_on n m is).come yes),
       (let all = (c.go_by.ensures.carries.all yes).0 in let was = c.loop-index.invariant.3 in omega (arith, all, was)),
       (c.go_by.ensures.carries.all yes).1 ∙ c.loop-index.invariant.4,
@@ -73,8 +73,8 @@ returns-clause-go_on c = λ n m is.
     let same = c.stage_there.ensures.kept in
     record {
       come = λ e pending w.
-          subst (λ hs. Come scene c.args.most (suc n) hs s c.loop-index.self) (passed ∙ ap (λ xs. going_on xs m.members) listed) (c.loop-index.invariant.2 n m is) pending
-          (same-within scene c.args.most (suc n) c.args.self.now s (going_on (next_behind (race_of scene) (shown_by c.args.class.now)) m.members ++ pending) same.0 same.1 w);
+          subst (λ hs. Come scene c.args.asked.now (suc n) hs s c.loop-index.self) (passed ∙ ap (λ xs. going_on xs m.members) listed) (c.loop-index.invariant.2 n m is) pending
+          (same-within scene c.args.asked.now (suc n) c.args.self.now s (going_on (next_behind (race_of scene) (shown_by c.args.class.now)) m.members ++ pending) same.0 same.1 w);
       cut = λ e. absurd (cc);
     }
 

@@ -9,5 +9,5 @@ use Rattle.chorus_explore.proofs.level_search.Search.go_on_from.Given as goal
 abbrev pub invariant-loop-index : goal.invariant-loop-index
 invariant-loop-index l = IsReady l.scenario l.self × LeadsThere l.scenario l.class.moves.items l.kept
     × ((n : ℕ) (m : Merged) → StandsFor (race_of l.scenario) n (shown_by l.class) l.class.number m
-    → Come l.scenario l.most (suc n) (going_on (take l.index l.moves.items) m.members) l.initial.self l.self)
+    → Come l.scenario l.asked (suc n) (going_on (take l.index l.moves.items) m.members) l.initial.self l.self)
     × (l.self.explored.events ≡ l.initial.self.explored.events + l.index) × (l.self.explored.bound ≡ l.initial.self.explored.bound)

@@ -69,7 +69,7 @@ returns-clause-ready c =
     })
 
 pub returns-clause-come : goal.returns-clause-come
-returns-clause-come c = λ most n m is.
+returns-clause-come c = λ asked n m is.
     let scene = c.args.scenario.now in
     let classes = c.args.self.now.next.items in
     let t = c.keep.new.self in
@@ -81,13 +81,13 @@ returns-clause-come c = λ most n m is.
           let old = read-same classes w.in-Some.index found.class w.index_mut.result.now at w.index_mut.ensures.value in
           let read = read-same classes w.in-Some.index found.class w.index.result.now at w.index.ensures in
           let new : Class = record w.index_mut.result.now { number = w.saturating_add.result } in
-          put-to scene most n c.args.self.now t (moves_of c.args.stage) c.args.number m is w.in-Some.index found.class new at (ap (λ (k : Class). k.moves) old)
+          put-to scene asked n c.args.self.now t (moves_of c.args.stage) c.args.number m is w.in-Some.index found.class new at (ap (λ (k : Class). k.moves) old)
           (w.saturating_add.ensures ∙ ap (λ (k : Class). min (k.number + c.args.number) (2 ^ 64 - 1)) read) found.alike (kept.0 ∙ same-explored c) (ap (λ v. v.items) kept.1 ∙ ap (λ (s : Search). s.next.items) w.self-is))
       | in-None+in_ok-moves-in-None+in_ok-reserve-in-None w ↦
           (let class : Class = record { moves = w.in_ok-moves-in-None.moves; number = c.args.number; sum = c.sum-sum.result } in
           let items = w.push_reserved.ensures.items ∙ ap (λ ks. ks ++ class ∷ []) w.in_ok-reserve-in-None.ensures.items in
           let shown = ap reverse (w.in_ok-moves-in-None.ensures.items ∙ w.deref-in-None.ensures.value) in
-          put-last scene most n c.args.self.now t (moves_of c.args.stage) c.args.number m is class shown refl c.requires.goes_on (kept.0 ∙ same-explored c)
+          put-last scene asked n c.args.self.now t (moves_of c.args.stage) c.args.number m is class shown refl c.requires.goes_on (kept.0 ∙ same-explored c)
           (ap (λ v. v.items) kept.1 ∙ ap (λ (s : Search). s.next.items) w.self-is ∙ items))
     ]
 

@@ -21,6 +21,7 @@ returns-clause-stands c = let h = c.requires.stands in record {
   used_len = length-set c.args.self.now.used.items _ _ ∙ h.used_len;
   used = rw c.in_ok-push.ensures.items (used_on c.args.self.now.used.items c.args.self.now.schedule.items (length c.args.self.now.scripts.items) c.args.script (c.args.script - 1) c.index_mut.result.now h.used (omega arith) (omega arith) h.used_len
       (get_or_read c.args.self.now.used.items _ _ (omega (arith, h.used_len)) c.index_mut.ensures.value 0));
+  counts = h.counts;
   early = λ e. absurd cc;
   some_script = λ e. absurd cc;
   few_scripts = h.few_scripts;

@@ -1,0 +1,5 @@
+use Rattle.chorus_explore.proofs.Deciding.{failures-are-replayed}
+use Rattle.chorus_explore.proofs.laws.failures_are_replayed.Goals as goal
+
+pub returns : goal.returns
+returns c = failures-are-replayed

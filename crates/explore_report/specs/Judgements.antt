@@ -1,0 +1,46 @@
+-- Claims, judged by histories.
+-- comes tells what a history comes to, k is a claim, j what was found of it, hs and ks are histories, h is one of ks, ms are
+-- moves, the latest first, a text is what a history comes to, told a number as it is told.
+use Rattle.std.specs.Prelude.{ℕ, ◌≡◌, ◌≤◌, Bool, true, false, List, ◌++◌, length, reverse, Some, slice_get, Contains}
+use Rattle.std.specs.List.{All}
+use Rattle.law_explore.specs.declared.moves.Move.{Move}
+use Rattle.chorus_claims.specs.Pieces.{Claim, meets}
+use Rattle.explore_report.specs.declared.judgements.Judgement.{Judgement}
+use Rattle.explore_report.specs.declared.judgements.Judgement.TheVariants.{Met, Failed}
+use Rattle.explore_report.specs.Findings.{AreLater, ComeTo}
+
+abbrev pub has_failed : Judgement → Bool
+has_failed Met = false
+has_failed (Failed moves text) = true
+
+-- the moves are one of the histories, and what they come to is the text; it does not meet the claim, and none of the
+-- histories that does not meet it is shorter
+pub record FailsFirst (comes : List Move → List ℕ) (hs : List (List Move)) (k : Claim) (ms : List Move)
+    (text : List ℕ) : Type 0 where
+  pub among : Contains hs ms
+  pub leads : comes ms ≡ text
+  pub unmet : meets k text ≡ false
+  pub first : All (λ (h : List Move). meets k (comes h) ≡ false → length ms ≤ length h) hs
+
+-- all of the histories meet the claim, or the one that is kept fails first
+abbrev pub IsJudged : (List Move → List ℕ) → List (List Move) → Claim → Judgement → Type 0
+IsJudged comes hs k Met = All (λ (h : List Move). meets k (comes h) ≡ true) hs
+IsJudged comes hs k (Failed moves text) = FailsFirst comes hs k (reverse moves.items) text.items
+
+-- so it is of each claim
+pub record AreJudged (comes : List Move → List ℕ) (hs : List (List Move)) (claims : List Claim)
+    (judged : List Judgement) : Type 0 where
+  pub many : length judged ≡ length claims
+  pub each : (i : ℕ) (k : Claim) (j : Judgement) → slice_get claims i ≡ Some k → slice_get judged i ≡ Some j →
+      IsJudged comes hs k j
+
+-- these histories, which come to the text and are no shorter than those before, are judged too
+abbrev pub Judges : Claim → List ℕ → List Move → Judgement → Judgement → Type 0
+Judges k text h old new =
+    (comes : List Move → List ℕ) (hs ks : List (List Move)) (told : ℕ) → ComeTo comes text h told ks → AreLater hs ks →
+    IsJudged comes hs k old → IsJudged comes (hs ++ ks) k new
+
+abbrev pub JudgesAll : List Claim → List ℕ → List Move → List Judgement → List Judgement → Type 0
+JudgesAll claims text h old new =
+    (comes : List Move → List ℕ) (hs ks : List (List Move)) (told : ℕ) → ComeTo comes text h told ks → AreLater hs ks →
+    AreJudged comes hs claims old → AreJudged comes (hs ++ ks) claims new

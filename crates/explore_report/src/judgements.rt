@@ -1,0 +1,102 @@
+//! What was found of claims: of each the first history that does not meet it.
+
+ghost use Rattle.std.specs.Prelude.{◌≡◌, ℕ, List, [], reverse, true, OnOk, IfOk};
+ghost use Rattle.std.specs.List.{All};
+ghost use Rattle.law_explore.specs.declared.moves.Move.{Move};
+ghost use Rattle.explore_report.specs.declared.judgements.Judgement.{Judgement};
+ghost use Rattle.explore_report.specs.Judgements.{AreJudged, Judges, JudgesAll, has_failed};
+
+use chorus_claims::{Claim, meets};
+use law_explore::Move;
+use std::alloc::{AllocError, Global};
+
+/// What was found of a claim, by the histories that it was asked of.
+#[derive(Drop)]
+pub enum Judgement {
+    /// All of them meet it.
+    Met,
+    /// One does not: the first that came.
+    Failed {
+        /// Its moves, in order.
+        moves: Vec<Move>,
+        /// The lines that it comes to.
+        text: Vec<u8>,
+    },
+}
+
+impl Judgement {
+    /// Whether a history does not meet the claim.
+    pub fn has_failed(&self) -> bool
+        ensures { result ≡ has_failed self.now }
+    {
+        match self {
+            Judgement::Met => false,
+            Judgement::Failed { .. } => true,
+        }
+    }
+
+    /// Judges the claim by histories that come to these lines, one of them these moves in order; a claim that failed is not
+    /// asked again. The only error is want of memory.
+    fn judge(
+        &mut self,
+        alloc: Global,
+        claim: &Claim,
+        text: &[u8],
+        moves: &[Move],
+    ) -> Result<(), AllocError>
+        ensures { OnOk result (Judges claim.now text.now (reverse moves.now) self.old self.new) }
+    {
+        if self.has_failed() {
+            return Ok(());
+        }
+        if meets(claim, text) {
+            return Ok(());
+        }
+        let moves = Vec::from_slice(alloc, moves)?;
+        let text = Vec::from_slice(alloc, text)?;
+        *self = Judgement::Failed { moves, text };
+        Ok(())
+    }
+}
+
+/// What was found of the claims at first: no history was looked at.
+pub fn not_yet_judged(alloc: Global, claims: &[Claim]) -> Result<Vec<Judgement>, AllocError>
+    ensures { IfOk result (λ judged. (comes : List Move → List ℕ) →
+        AreJudged comes [] claims.now judged.items) }
+{
+    let mut judged = Vec::new(alloc);
+    for _claim in claims {
+        judged.push(Judgement::Met)?;
+    }
+    Ok(judged)
+}
+
+/// Judges each of the claims by histories that come to these lines, one of them these moves in order; what was found of each
+/// stands at its place. The only error is want of memory.
+pub fn judge_all(
+    alloc: Global,
+    claims: &[Claim],
+    text: &[u8],
+    moves: &[Move],
+    judged: &mut Vec<Judgement>,
+) -> Result<(), AllocError>
+    ensures { OnOk result (JudgesAll claims.now text.now (reverse moves.now)
+        judged.old.items judged.new.items) }
+{
+    for index in 0..claims.len().min(judged.len()) {
+        judged[index].judge(alloc, &claims[index], text, moves)?;
+    }
+    Ok(())
+}
+
+/// Whether there are claims, and each of them has failed.
+pub fn have_all_failed(judged: &[Judgement]) -> bool
+    ensures { result ≡ true → All (λ (j : Judgement). has_failed j ≡ true) judged.now }
+{
+    for judgement in judged {
+        if !judgement.has_failed() {
+            return false;
+        }
+    }
+    !judged.is_empty()
+}

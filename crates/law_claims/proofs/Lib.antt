@@ -1,0 +1,4 @@
+pub mod Fitting
+pub mod Meeting
+pub mod Shortened
+pub mod Few
