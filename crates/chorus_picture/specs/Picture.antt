@@ -12,18 +12,25 @@ use Rattle.chorus_audit.specs.declared.judging.Audit.TheVariants.{Legal}
 use Rattle.law_picture.specs.Bars.{bar}
 use Rattle.picture_rows.specs.Columns.{ColumnShape, columns}
 use Rattle.picture_rows.specs.Rows.{end_y}
-use Rattle.picture_rows.specs.Shapes.{rows}
+use Rattle.picture_rows.specs.Setup.{setup_rows}
+use Rattle.picture_rows.specs.Shapes.{arrow_text, each_row, ground_text, marks_text}
 use Rattle.chorus_picture.specs.Sheet.{front, bars_left, all_heads}
 use Rattle.chorus_picture.specs.Found.{behind_lines, found_text, foot}
+
+-- what lies below the arrows: the ground of each row, and the bars that no entry ends
+abbrev pub ground : List ColumnShape → List Entry → ℕ → List ℕ
+ground cs es n =
+    each_row (ground_text cs) [] es ++ flat_map (bars_left (λ q. bar q (reverse es)) (end_y n)) cs
 
 -- what stands behind the rows
 abbrev pub behind_rows : Layout → List ℕ → List Entry → Audit → List ColumnShape → ℕ → List ℕ
 behind_rows l text es audit cs n =
-    flat_map (bars_left (λ q. bar q (reverse es)) (end_y n)) cs ++ all_heads l cs n
-    ++ found_text text es audit (end_y n) ++ foot (end_y n)
+    all_heads l cs n ++ found_text text es audit (end_y n) ++ foot (end_y n)
 
 abbrev pub picture_on : Layout → List ℕ → List Entry → Audit → List ColumnShape → ℕ → List ℕ
-picture_on l text es audit cs n = front cs n ++ rows cs [] es ++ behind_rows l text es audit cs n
+picture_on l text es audit cs n =
+    front cs n (setup_rows es) ++ ground cs es n ++ each_row (arrow_text cs) [] es ++ each_row (marks_text cs) [] es
+    ++ behind_rows l text es audit cs n
 
 -- what is drawn of a text, by the entries that it begins with and what an audit finds of it
 abbrev pub picture_text : Layout → List ℕ → List Entry → Audit → List ℕ

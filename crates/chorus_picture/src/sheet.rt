@@ -1,12 +1,12 @@
-//! The sheet of a picture: its size and its style, the lines of its columns, their heads, and the bars that go to the
-//! end.
+//! The sheet of a picture: its size and its style, the block of the setup, the lines of its columns,
+//! the bands of their heads and what stands in these, and the bars that go to the end.
 
-ghost use Rattle.std.specs.Prelude.{◌≡◌, ◌<◌, ◌+◌, ◌^◌, ◌++◌, OnOk};
+ghost use Rattle.std.specs.Prelude.{◌≡◌, ◌<◌, ◌+◌, ◌-◌, ◌*◌, ◌^◌, ◌++◌, OnOk};
 ghost use Rattle.std.specs.List.{flat_map};
 ghost use Rattle.chorus_ui.specs.Layout.{site_of};
 ghost use Rattle.picture_rows.specs.Columns.{lane_of};
 ghost use Rattle.picture_rows.specs.Tables.{bar_of};
-ghost use Rattle.chorus_picture.specs.Sheet.{all_heads, band, bar_left, bars_left, column_head, front, head_at, heads_from, lane_front, lane_head, line_at, line_of, opening_tag, paper, place_head};
+ghost use Rattle.chorus_picture.specs.Sheet.{all_heads, band, bands_from, bar_left, bars_left, block, block_at, captions, column_head, front, head_at, heads_from, lane_front, lane_head, line_at, line_of, opening_tag, paper, place_head};
 
 use crate::style::STYLE;
 use chorus_ui::{Layout, Ui};
@@ -15,21 +15,72 @@ use picture_rows::{Column, Tables, end_y, heads, push_bar, right_edge};
 use picture_texts::{push_filled, push_numbered};
 use std::alloc::AllocError;
 
-/// Appends all that stands before the rows, of which there are so many.
+/// Appends all that stands before the rows, of which there are so many, and at their front so many of
+/// the setup.
 pub(crate) fn push_front(
     columns: &[Column],
     count: u32,
+    setup: u32,
     out: &mut Vec<u8>,
 ) -> Result<(), AllocError>
-    ensures { OnOk result (out.new.items ≡ out.old.items ++ front columns.now count) }
+    ensures { OnOk result (out.new.items ≡ out.old.items ++ front columns.now count setup) }
 {
     let end = end_y(count);
     let width = right_edge(columns) + 660;
     push_opening(width, end + 234, out)?;
     out.extend_from_slice(STYLE.as_bytes())?;
     push_paper(width, end + 234, out)?;
+    push_block(width, setup, out)?;
     push_lines(columns, end, out)?;
+    push_bands_from(width, heads(count), 0, out)?;
     Ok(())
+}
+
+/// Appends to the sheet the block behind so many rows of the setup, as wide as the sheet, if there is
+/// one.
+fn push_block(width: u64, rows: u32, out: &mut Vec<u8>) -> Result<(), AllocError>
+    ensures { OnOk result (out.new.items ≡ out.old.items ++ block width rows) }
+{
+    if rows == 0 {
+        return Ok(());
+    }
+    push_block_at(width, end_y(rows).saturating_sub(49), out)
+}
+
+/// Appends to the sheet the block behind the rows of the setup, of this width and height.
+#[tactic(auto, unfolding(crate::specs::Sheet::block_at))]
+fn push_block_at(width: u64, height: u64, out: &mut Vec<u8>) -> Result<(), AllocError>
+    ensures { OnOk result (out.new.items ≡ out.old.items ++ block_at width height) }
+{
+    push_filled(
+        b"<rect class='setup' y='40' width='@' height='@'/>\n",
+        &[width, height],
+        out,
+    )
+}
+
+/// Appends the bands of so many of the sheet's heads from this one on, as wide as the sheet.
+fn push_bands_from(width: u64, more: u32, first: u32, out: &mut Vec<u8>) -> Result<(), AllocError>
+    requires { first + more < 2 ^ 32 }
+    ensures { OnOk result (out.new.items ≡ out.old.items ++ bands_from width more first) }
+{
+    if more == 0 {
+        return Ok(());
+    }
+    push_band(width, 616 * u64::from(first), out)?;
+    push_bands_from(width, more - 1, first + 1, out)
+}
+
+/// Appends the band of the head that begins at y, as wide as the sheet.
+#[tactic(auto, unfolding(crate::specs::Sheet::band))]
+fn push_band(width: u64, y: u64, out: &mut Vec<u8>) -> Result<(), AllocError>
+    ensures { OnOk result (out.new.items ≡ out.old.items ++ band width y) }
+{
+    push_filled(
+        b"<rect class='band' y='@' width='@' height='40'/>\n",
+        &[y, width],
+        out,
+    )
 }
 
 /// Appends the tag that begins the document, of this width and height.
@@ -168,7 +219,7 @@ fn push_head(
     requires { y < 2 ^ 50 }
     ensures { OnOk result (out.new.items ≡ out.old.items ++ head_at layout columns.now y) }
 {
-    push_band(right_edge(columns), y, out)?;
+    push_captions(right_edge(columns), y, out)?;
     push_column_heads(layout, columns, y, out)?;
     Ok(())
 }
@@ -190,24 +241,16 @@ fn push_column_heads(
     Ok(())
 }
 
-/// Appends the band of the head that begins at y, with the words clock, caller and entry over their texts.
-#[tactic(auto, unfolding(crate::specs::Sheet::band))]
-fn push_band(right: u64, y: u64, out: &mut Vec<u8>) -> Result<(), AllocError>
+/// Appends to the head that begins at y the words clock, caller and entry over their texts.
+#[tactic(auto, unfolding(crate::specs::Sheet::captions))]
+fn push_captions(right: u64, y: u64, out: &mut Vec<u8>) -> Result<(), AllocError>
     requires right { right < 2 ^ 40 }
     requires y { y < 2 ^ 50 }
-    ensures { OnOk result (out.new.items ≡ out.old.items ++ band right y) }
+    ensures { OnOk result (out.new.items ≡ out.old.items ++ captions right y) }
 {
     push_filled(
-        b"<rect class='band' y='@' width='@' height='40'/><text x='8' y='@'>clock</text><text x='@' y='@'>caller</text><text x='@' y='@'>entry</text>\n",
-        &[
-            y,
-            right + 660,
-            y + 32,
-            right + 12,
-            y + 32,
-            right + 72,
-            y + 32,
-        ],
+        b"<text x='8' y='@'>clock</text><text x='@' y='@'>caller</text><text x='@' y='@'>entry</text>\n",
+        &[y + 32, right + 12, y + 32, right + 72, y + 32],
         out,
     )
 }

@@ -6,10 +6,12 @@ pub(crate) const STYLE: &str = "\
 text{font:12px monospace;fill:#222;white-space:pre}\n\
 path{fill:none}\n\
 .paper{fill:#fff}\n\
-.band{fill:#eaeef4;fill-opacity:.9}\n\
+.setup{fill:#f1f1f1}\n\
+.band{fill:#eaeef4}\n\
 .head{font-weight:bold;text-anchor:end}\n\
 .name,.count{font-size:9px}\n\
-.count{text-anchor:middle}\n\
+.head,.name{stroke:#eaeef4;stroke-width:3px;paint-order:stroke}\n\
+.count{text-anchor:middle;stroke:#fff;stroke-width:2px;stroke-opacity:.6;paint-order:stroke}\n\
 .sum{font-size:10px}\n\
 .line{stroke:#bbb}\n\
 .tick{stroke:#e2e2e2}\n\
@@ -23,6 +25,7 @@ path{fill:none}\n\
 .own .act{font-weight:bold}\n\
 .lost .act,.denied .act,.wrong{fill:#b00020}\n\
 .stale .act{fill:#7a4a00}\n\
+.act .body{fill:#777;font-weight:normal}\n\
 .try{stroke:#1f5fbf;stroke-width:2;marker-end:url(#try)}\n\
 .verdict{stroke:#666;stroke-width:2;stroke-dasharray:6 4;marker-end:url(#verdict)}\n\
 .transfer{stroke:#b07d00;stroke-width:4;marker-end:url(#transfer)}\n\
@@ -64,4 +67,5 @@ pub(crate) const LEGEND: &str = "\
 <path class='ask' d='M400 70H440'/><text x='452' y='74'>Ask: a post goes to its group</text>\n\
 <path class='report' d='M400 88H440'/><text x='452' y='92'>Report: what became of it</text>\n\
 <path class='tick' d='M400 106H440'/><text x='452' y='110'>from this line on another clock</text>\n\
+<rect class='setup' x='400' y='118' width='40' height='14'/><text x='452' y='128'>the setup</text>\n\
 ";

@@ -1,54 +1,67 @@
 -- What was drawn after so many rows.
-use Rattle.std.proofs.Common.{◌≡◌, ℕ, ◌+◌, ◌<◌, ◌≤◌, List, [], ◌∷◌, ◌++◌, length, take, reverse, slice_index_or, sym, ap, ◌∙◌, subst, append_assoc, append-nil, arith}
+use Rattle.std.proofs.Common.{◌≡◌, ℕ, ◌+◌, ◌<◌, ◌≤◌, List, Option, [], ◌∷◌, ◌++◌, length, take, reverse, slice_index_or, sym, ap, ◌∙◌, subst, append_assoc, append-nil, arith}
 use Rattle.std.proofs.lemmas.List.{length-reverse, length-take-le, reverse-append, take_all}
 use Rattle.std.proofs.lemmas.Grind.{take_at_read}
 use Rattle.chorus_entry.specs.declared.entry.Entry.{Entry}
+use Rattle.chorus_entry.specs.declared.id.MsgId.{MsgId}
+use Rattle.picture_rows.specs.Bodies.{AreBodies, AreNotes, NotesAfter}
 use Rattle.picture_rows.specs.Columns.{ColumnShape}
-use Rattle.picture_rows.specs.Shapes.{rows}
+use Rattle.picture_rows.specs.Shapes.{arrow_text, each_row, ground_text, marks_text}
+use Rattle.picture_rows.specs.declared.bodies.Bodies.{Bodies}
 use Rattle.picture_rows.specs.declared.tables.Tables.{Tables}
 use Rattle.picture_rows.specs.declared.limits.TheConstants.{ENTRIES_LIMIT}
-use Rattle.picture_rows.specs.Tables.{AreTables, Grows, HaveFew, bar_of, row_by}
-use Rattle.picture_rows.proofs.Kept.{grows, have_few, row_is}
+use Rattle.picture_rows.specs.Tables.{AreTables, Grows, HaveFew, bar_of}
+use Rattle.picture_rows.proofs.Kept.{grows, have_few}
+use Rattle.picture_rows.proofs.Noted.{notes_next}
 use Rattle.picture_rows.proofs.RowTexts.{rows_next}
 
-pub record Drawn (old now : List ℕ) (cs : List ColumnShape) (es : List Entry) (i : ℕ) (t : Tables) : Type 0 where
-  pub text : now ≡ old ++ rows cs [] (take i es)
-  pub tables : AreTables t (reverse (take i es))
+-- one layer
+abbrev pub IsLayer : (List Entry → Entry → List ℕ) → List Entry → ℕ → List ℕ → List ℕ → Type 0
+IsLayer part es i old now = now ≡ old ++ each_row part [] (take i es)
 
-pub drawn_none : (old : List ℕ) (cs : List ColumnShape) (es : List Entry) (t : Tables) → AreTables t [] → Drawn old old cs es 0 t
-drawn_none old cs es t h = record { text = sym (append-nil old); tables = h }
+pub layer_none : (part : List Entry → Entry → List ℕ) (es : List Entry) (old : List ℕ) → IsLayer part es 0 old old
+layer_none part es old = sym (append-nil old)
 
-module _ (old mid : List ℕ) (cs : List ColumnShape) (es : List Entry) (i : ℕ) (s : Tables) (h : Drawn old mid cs es i s) (e : Entry) (less : i < length es) (is : e ≡ slice_index_or es i e) where
+pub layer_all : (part : List Entry → Entry → List ℕ) (es : List Entry) (i : ℕ) (old now : List ℕ)
+    → IsLayer part es i old now → length es ≤ i → now ≡ old ++ each_row part [] es
+layer_all part es i old now h all = h ∙ ap (λ xs. old ++ each_row part [] xs) (take_all i es all)
+
+-- one entry more
+module _ (es : List Entry) (i : ℕ) (e : Entry) (less : i < length es) (is : e ≡ slice_index_or es i e) where
   taken : take (i + 1) es ≡ take i es ++ e ∷ []
   taken = (take_at_read es i e less).1 ∙ ap (λ d. take i es ++ d ∷ []) (sym is)
-
-  rows_taken : rows cs [] (take (i + 1) es) ≡ rows cs [] (take i es) ++ row_by cs s e
-  rows_taken =
-      ap (rows cs []) taken ∙ rows_next cs (take i es) e
-      ∙ ap (λ t. rows cs [] (take i es) ++ t) (sym (row_is cs s (reverse (take i es)) e h.tables))
 
   past_taken : reverse (take (i + 1) es) ≡ e ∷ reverse (take i es)
   past_taken = ap reverse taken ∙ reverse-append (take i es) (e ∷ [])
 
-  pub drawn_next : (now : List ℕ) (t : Tables) → now ≡ mid ++ row_by cs s e → Grows e s t → Drawn old now cs es (i + 1) t
-  drawn_next now t written grown = record {
-    text =
-        written ∙ ap (λ text. text ++ row_by cs s e) h.text ∙ append_assoc old (rows cs [] (take i es)) (row_by cs s e)
-        ∙ ap (λ text. old ++ text) (sym rows_taken);
-    tables = subst (AreTables t) (sym past_taken) (grows s t (reverse (take i es)) e h.tables grown);
-  }
+  pub layer_next : (part : List Entry → Entry → List ℕ) (old mid now text : List ℕ) → IsLayer part es i old mid → now ≡ mid ++ text
+      → text ≡ part (reverse (take i es)) e → IsLayer part es (i + 1) old now
+  layer_next part old mid now text h written stands =
+      written ∙ ap (λ front. front ++ text) h ∙ append_assoc old (each_row part [] (take i es)) text
+      ∙ ap (λ t. old ++ (each_row part [] (take i es) ++ t)) stands
+      ∙ ap (λ t. old ++ t) (sym (ap (each_row part []) taken ∙ rows_next part (take i es) e))
 
--- all of them
-pub drawn_all : (old now : List ℕ) (cs : List ColumnShape) (es : List Entry) (i : ℕ) (t : Tables)
-    → Drawn old now cs es i t → length es ≤ i → (now ≡ old ++ rows cs [] es) × AreTables t (reverse es)
-drawn_all old now cs es i t h all =
-    let whole = take_all i es all in
-    (h.text ∙ ap (λ xs. old ++ rows cs [] xs) whole, subst (λ xs. AreTables t (reverse xs)) whole h.tables)
+  pub tables_next : (s t : Tables) → AreTables s (reverse (take i es)) → Grows e s t → AreTables t (reverse (take (i + 1) es))
+  tables_next s t h grown = subst (AreTables t) (sym past_taken) (grows s t (reverse (take i es)) e h grown)
+
+  pub notes_taken : (old new : MsgId → Option (List ℕ)) → AreNotes old (reverse (take i es)) → NotesAfter e old new
+      → AreNotes new (reverse (take (i + 1) es))
+  notes_taken old new h after = subst (AreNotes new) (sym past_taken) (notes_next old new (reverse (take i es)) e h after)
 
 -- there is room in the tables for the next one
-pub drawn_room : (old now : List ℕ) (cs : List ColumnShape) (es : List Entry) (i : ℕ) (t : Tables)
-    → Drawn old now cs es i t → i < length es → length es ≤ ENTRIES_LIMIT → (t.number < ENTRIES_LIMIT) × HaveFew (bar_of t.bars)
-drawn_room old now cs es i t h less few =
+pub tables_room : (es : List Entry) (i : ℕ) (t : Tables) → AreTables t (reverse (take i es)) → i < length es → length es ≤ ENTRIES_LIMIT
+    → (t.number < ENTRIES_LIMIT) × HaveFew (bar_of t.bars)
+tables_room es i t h less few =
     let so-far : length (reverse (take i es)) ≤ i = omega (arith, length-reverse (take i es), length-take-le i es (omega (arith, less))) in
-    let number : t.number < ENTRIES_LIMIT = omega (arith, h.tables.number, so-far, less, few) in
-    (number, have_few t (reverse (take i es)) h.tables number)
+    let number : t.number < ENTRIES_LIMIT = omega (arith, h.number, so-far, less, few) in
+    (number, have_few t (reverse (take i es)) h number)
+
+pub tables_all : (es : List Entry) (i : ℕ) (t : Tables) → AreTables t (reverse (take i es)) → length es ≤ i → AreTables t (reverse es)
+tables_all es i t h all = subst (λ xs. AreTables t (reverse xs)) (take_all i es all) h
+
+pub record Drawn (og oa om g a m : List ℕ) (cs : List ColumnShape) (es : List Entry) (i : ℕ) (t : Tables) (b : Bodies) : Type 0 where
+  pub ground : IsLayer (ground_text cs) es i og g
+  pub arrows : IsLayer (arrow_text cs) es i oa a
+  pub marks : IsLayer (marks_text cs) es i om m
+  pub tables : AreTables t (reverse (take i es))
+  pub bodies : AreBodies b (reverse (take i es))

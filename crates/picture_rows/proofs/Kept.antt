@@ -1,5 +1,5 @@
 -- What the tables have of a past, and of one entry more.
-use Rattle.std.proofs.Common.{◌≡◌, ℕ, suc, ◌<◌, ◌≤◌, Bool, true, false, cond, List, [], ◌∷◌, ◌++◌, length, Option, None, Some, refl, sym, ap, ◌∙◌, arith}
+use Rattle.std.proofs.Common.{◌≡◌, ℕ, suc, ◌<◌, ◌≤◌, ◌&&◌, not, Bool, true, false, cond, List, [], ◌∷◌, ◌++◌, length, Option, None, Some, refl, sym, ap, ◌∙◌, arith}
 use Rattle.chorus_ui.specs.declared.ui.Ui.{Ui}
 use Rattle.chorus_entry.specs.declared.entry.Entry.{Entry}
 use Rattle.chorus_entry.specs.declared.id.MsgId.{MsgId}
@@ -17,11 +17,13 @@ use Rattle.law_picture.specs.declared.bar.Bar.{Bar}
 use Rattle.picture_rows.specs.Columns.{ColumnShape, right_edge}
 use Rattle.picture_rows.specs.Edge.{tick_at, tick_of}
 use Rattle.picture_rows.specs.Rows.{row_y}
-use Rattle.picture_rows.specs.Shapes.{arrow, bar_above, entry_at, is_new_clock, row_text, row_with, tick}
+use Rattle.picture_rows.specs.Setup.{is_setup}
+use Rattle.picture_rows.specs.Bodies.{note}
+use Rattle.picture_rows.specs.Shapes.{arrow, arrow_text, bar_above, count, count_by, entry_at, ground_text, ground_with, is_new_clock, marks_text, marks_with, tick}
 use Rattle.picture_rows.specs.declared.limits.TheConstants.{ENTRIES_LIMIT}
 use Rattle.picture_rows.specs.declared.tables.Before.{Before}
 use Rattle.picture_rows.specs.declared.tables.Tables.{Tables}
-use Rattle.picture_rows.specs.Tables.{AreTables, Grows, HaveFew, IsBefore, about_row, bar_before, bar_ended, bar_next, bar_of, cause_in, last_row, row_behind, row_by, row_next}
+use Rattle.picture_rows.specs.Tables.{AreTables, Grows, HaveFew, IsBefore, about_row, bar_before, bar_ended, bar_next, bar_of, cause_in, ground_behind, ground_by, last_row, marks_behind, marks_by, row_next}
 
 -- no more messages wait than there are entries
 fewer : (a : Act) (n m : ℕ) → n ≤ m → waits_after a n ≤ suc m
@@ -75,14 +77,22 @@ cause_is t past e h = ap (from_elsewhere e) (last_is t past (port_arrived e.act)
 pub bars_are : (t : Tables) (past : List Entry) → AreTables t past → bar_of t.bars ≡ (λ q. bar q past)
 bars_are t past h = λ i q. h.bars q i
 
-pub row_is : (cs : List ColumnShape) (t : Tables) (past : List Entry) (e : Entry) → AreTables t past → row_by cs t e ≡ row_text cs past e
-row_is cs t past e h = λ i. row_with cs (bars_are t past h i) (h.number i) (h.clock i) e (cause_is t past e h i)
+ground_is : (cs : List ColumnShape) (t : Tables) (past : List Entry) (e : Entry) → AreTables t past → ground_by cs t e ≡ ground_text cs past e
+ground_is cs t past e h = λ i. ground_with cs (bars_are t past h i) (h.number i) (h.clock i) e
+
+marks_are : (cs : List ColumnShape) (t : Tables) (past : List Entry) (e : Entry) (text : List ℕ) → AreTables t past → text ≡ note (e ∷ past) e.act
+    → marks_by cs t e text ≡ marks_text cs past e
+marks_are cs t past e text h said = λ i. marks_with cs (bars_are t past h i) (h.number i) e (cause_is t past e h i) (said i)
 
 -- A row by what they said before it is one by what they say.
 
 ended_is : (cs : List ColumnShape) (bars : Ui → Option Bar) (y : ℕ) (p : Option Ui) → bar_ended cs y p (bar_before bars p) ≡ bar_above cs bars y p
 ended_is cs bars y None = refl
 ended_is cs bars y (Some q) = refl
+
+counted_is : (cs : List ColumnShape) (bars : Ui → Option Bar) (y : ℕ) (e : Entry) (p : Option Ui) → count_by cs y e p (bar_before bars p) ≡ count cs bars y e p
+counted_is cs bars y e None = refl
+counted_is cs bars y e (Some q) = refl
 
 thin_is : (cs : List ColumnShape) (y : ℕ) (b : Bool) → tick_of (right_edge cs) y b ≡ tick cs y b
 unfolding tick tick_at
@@ -92,10 +102,20 @@ thin_is cs y false = refl
 abbrev given : Option Row → Option ℕ → ℕ → Option Bar → Before
 given cause clock number b = record { number = number; clock = clock; cause = cause; bar = b }
 
-pub behind_is : (right : ℕ) (cs : List ColumnShape) (t : Tables) (e : Entry) (b : Before) → right ≡ right_edge cs → IsBefore t e b
-    → row_behind right cs b e ≡ row_by cs t e
-behind_is right cs t e b edge h =
-    (λ i. row_behind (edge i) cs (given (h.cause i) (h.clock i) (h.number i) (h.bar i)) e)
-    ∙ (λ i. thin_is cs (row_y t.number) (is_new_clock t.clock e.clock) i
-    ++ ended_is cs (bar_of t.bars) (row_y t.number) (held_port_of e.act) i ++ arrow cs t.number e (cause_in t e)
-    ++ entry_at cs t.number e (cause_in t e))
+module _ (right : ℕ) (cs : List ColumnShape) (t : Tables) (past : List Entry) (e : Entry) (b : Before) (edge : right ≡ right_edge cs) (tables : AreTables t past) (h : IsBefore t e b) where
+  pub ground_behind_is : ground_behind right cs b e ≡ ground_text cs past e
+  ground_behind_is =
+      (λ i. ground_behind (edge i) cs (given (h.cause i) (h.clock i) (h.number i) (h.bar i)) e)
+      ∙ (λ i. thin_is cs (row_y t.number) (is_new_clock t.clock e.clock && not (is_setup e)) i
+      ++ ended_is cs (bar_of t.bars) (row_y t.number) (held_port_of e.act) i)
+      ∙ ground_is cs t past e tables
+
+  pub arrow_behind_is : arrow cs b.number e b.cause ≡ arrow_text cs past e
+  arrow_behind_is =
+      (λ i. arrow cs (h.number i) e (h.cause i)) ∙ (λ i. arrow cs (tables.number i) e (cause_is t past e tables i))
+
+  pub marks_behind_is : (text : List ℕ) → text ≡ note (e ∷ past) e.act → marks_behind right cs b e text ≡ marks_text cs past e
+  marks_behind_is text said =
+      (λ i. marks_behind (edge i) cs (given (h.cause i) (h.clock i) (h.number i) (h.bar i)) e text)
+      ∙ (λ i. entry_at cs t.number e (cause_in t e) text ++ counted_is cs (bar_of t.bars) (row_y t.number) e (held_port_of e.act) i)
+      ∙ marks_are cs t past e text tables said

@@ -4,6 +4,7 @@ mod FirstLine
 pub mod Kept
 mod LinesLeft
 mod MarkKinds
+mod Noted
 mod PieceTexts
 mod RoundTexts
 mod RowTexts

@@ -13,38 +13,39 @@ use Rattle.picture_rows.specs.Shapes.{arrow_along, bar_class, ends, entry_in, li
 
 -- an entry
 
-abbrev pub entry_texts : ℕ → ℕ → Entry → List ℕ
-entry_texts right y e = texts_piece right y (decimal e.clock) (decimal e.seat) ++ shown_act (act_text e.act) ++ codes "</text></g>\n"
+abbrev pub entry_texts : ℕ → ℕ → Entry → List ℕ → List ℕ
+entry_texts right y e note =
+    texts_piece right y (decimal e.clock) (decimal e.seat) ++ shown_act (act_text e.act) ++ note ++ codes "</text></g>\n"
 
 -- the place of its mark, and its texts
-placed : (right x y z : ℕ) (e : Entry)
-    → spot_piece x y ++ entry_texts right z e
-    ≡ (decimal x ++ ((codes "' y='" ++ decimal y) ++ codes "'/>")) ++ (codes "<text x='8' y='" ++ entry_texts right z e)
-placed right x y z e =
-    three_then (decimal x) (codes "' y='" ++ decimal y) (codes "'/><text x='8' y='") (entry_texts right z e)
-    ∙ sym (three_then (decimal x) (codes "' y='" ++ decimal y) (codes "'/>") (codes "<text x='8' y='" ++ entry_texts right z e))
+placed : (right x y z : ℕ) (e : Entry) (note : List ℕ)
+    → spot_piece x y ++ entry_texts right z e note
+    ≡ (decimal x ++ ((codes "' y='" ++ decimal y) ++ codes "'/>")) ++ (codes "<text x='8' y='" ++ entry_texts right z e note)
+placed right x y z e note =
+    three_then (decimal x) (codes "' y='" ++ decimal y) (codes "'/><text x='8' y='") (entry_texts right z e note)
+    ∙ sym (three_then (decimal x) (codes "' y='" ++ decimal y) (codes "'/>") (codes "<text x='8' y='" ++ entry_texts right z e note))
 
 -- a title, a mark and texts
 titled : (title a b c : List ℕ) → title ++ (a ++ (b ++ c)) ≡ ((title ++ a) ++ b) ++ c
 titled title a b c = sym (append_assoc (title ++ a) b c ∙ append_assoc title a (b ++ c))
 
-module _ (right x y : ℕ) (e : Entry) where
+module _ (right x y : ℕ) (e : Entry) (note : List ℕ) where
   abbrev entry_pieces : Mark → List ℕ
-  entry_pieces m = mark_open m ++ (markup (line_text e) ++ (mark_use m ++ (spot_piece x y ++ entry_texts right (y + 4) e)))
+  entry_pieces m = mark_open m ++ (markup (line_text e) ++ (mark_use m ++ (spot_piece x y ++ entry_texts right (y + 4) e note)))
 
   by_title : (m : Mark) (name : List ℕ)
-      → mark_open m ++ (markup (line_text e) ++ (codes "</title>" ++ (mark_at name x y ++ texts_at right (y + 4) e)))
-      ≡ mark_open m ++ (((markup (line_text e) ++ codes "</title>") ++ mark_at name x y) ++ texts_at right (y + 4) e)
-  by_title m name = ap (λ t. mark_open m ++ t) (titled (markup (line_text e)) (codes "</title>") (mark_at name x y) (texts_at right (y + 4) e))
+      → mark_open m ++ (markup (line_text e) ++ (codes "</title>" ++ (mark_at name x y ++ texts_at right (y + 4) e note)))
+      ≡ mark_open m ++ (((markup (line_text e) ++ codes "</title>") ++ mark_at name x y) ++ texts_at right (y + 4) e note)
+  by_title m name = ap (λ t. mark_open m ++ t) (titled (markup (line_text e)) (codes "</title>") (mark_at name x y) (texts_at right (y + 4) e note))
 
-  pub entry_is : (m : Mark) → entry_pieces m ≡ entry_in m right x y e
+  pub entry_is : (m : Mark) → entry_pieces m ≡ entry_in m right x y e note
   unfolding entry_in mark_at spot texts_at texts_front
-  entry_is M.Own = ap (λ t. mark_open M.Own ++ (markup (line_text e) ++ (mark_use M.Own ++ t))) (placed right x y (y + 4) e) ∙ by_title M.Own (codes "own")
-  entry_is M.Denied = ap (λ t. mark_open M.Denied ++ (markup (line_text e) ++ (mark_use M.Denied ++ t))) (placed right x y (y + 4) e) ∙ by_title M.Denied (codes "denied")
-  entry_is M.Work = ap (λ t. mark_open M.Work ++ (markup (line_text e) ++ (mark_use M.Work ++ t))) (placed right x y (y + 4) e) ∙ by_title M.Work (codes "work")
-  entry_is M.Follow = ap (λ t. mark_open M.Follow ++ (markup (line_text e) ++ (mark_use M.Follow ++ t))) (placed right x y (y + 4) e) ∙ by_title M.Follow (codes "follow")
-  entry_is M.Stale = ap (λ t. mark_open M.Stale ++ (markup (line_text e) ++ (mark_use M.Stale ++ t))) (placed right x y (y + 4) e) ∙ by_title M.Stale (codes "stale")
-  entry_is M.Lost = ap (λ t. mark_open M.Lost ++ (markup (line_text e) ++ (mark_use M.Lost ++ t))) (placed right x y (y + 4) e) ∙ by_title M.Lost (codes "lost")
+  entry_is M.Own = ap (λ t. mark_open M.Own ++ (markup (line_text e) ++ (mark_use M.Own ++ t))) (placed right x y (y + 4) e note) ∙ by_title M.Own (codes "own")
+  entry_is M.Denied = ap (λ t. mark_open M.Denied ++ (markup (line_text e) ++ (mark_use M.Denied ++ t))) (placed right x y (y + 4) e note) ∙ by_title M.Denied (codes "denied")
+  entry_is M.Work = ap (λ t. mark_open M.Work ++ (markup (line_text e) ++ (mark_use M.Work ++ t))) (placed right x y (y + 4) e note) ∙ by_title M.Work (codes "work")
+  entry_is M.Follow = ap (λ t. mark_open M.Follow ++ (markup (line_text e) ++ (mark_use M.Follow ++ t))) (placed right x y (y + 4) e note) ∙ by_title M.Follow (codes "follow")
+  entry_is M.Stale = ap (λ t. mark_open M.Stale ++ (markup (line_text e) ++ (mark_use M.Stale ++ t))) (placed right x y (y + 4) e note) ∙ by_title M.Stale (codes "stale")
+  entry_is M.Lost = ap (λ t. mark_open M.Lost ++ (markup (line_text e) ++ (mark_use M.Lost ++ t))) (placed right x y (y + 4) e note) ∙ by_title M.Lost (codes "lost")
 
 -- an arrow
 

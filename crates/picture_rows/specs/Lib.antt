@@ -1,6 +1,8 @@
 pub mod Columns
 pub mod Rows
 pub mod Marks
+pub mod Setup
+pub mod Bodies
 pub mod Shapes
 pub mod Pieces
 pub mod Edge

@@ -1,6 +1,6 @@
 -- Tables: what is kept of the entries that are drawn.
 -- x is the id of a message, q a port.
-use Rattle.std.specs.Prelude.{ℕ, ◌≡◌, ◌<◌, ◌+◌, cond, List, [], ◌++◌, length, Option, None, Some}
+use Rattle.std.specs.Prelude.{ℕ, ◌≡◌, ◌<◌, ◌+◌, ◌&&◌, not, cond, List, [], ◌++◌, length, Option, None, Some}
 use Rattle.std.specs.HashMap.{HashMap, get}
 use Rattle.chorus_ui.specs.declared.ui.Ui.{Ui}
 use Rattle.chorus_entry.specs.declared.entry.Entry.{Entry}
@@ -20,7 +20,8 @@ use Rattle.picture_rows.specs.Columns.{ColumnShape, column_at, x_of}
 use Rattle.picture_rows.specs.Edge.{tick_of}
 use Rattle.picture_rows.specs.Marks.{mark_of}
 use Rattle.picture_rows.specs.Rows.{row_y}
-use Rattle.picture_rows.specs.Shapes.{arrow, bar_held, clock_before, entry_in, is_new_clock, row_with}
+use Rattle.picture_rows.specs.Setup.{is_setup}
+use Rattle.picture_rows.specs.Shapes.{bar_held, clock_before, count_by, entry_in, ground_with, is_new_clock, marks_with}
 use Rattle.picture_rows.specs.declared.tables.Before.{Before}
 use Rattle.picture_rows.specs.declared.tables.Tables.{Tables}
 
@@ -85,9 +86,13 @@ pub record Grows (e : Entry) (s t : Tables) : Type 0 where
 abbrev pub HaveFew : (Ui → Option Bar) → Type 0
 HaveFew bars = (q : Ui) → waits_in (bars q) < ENTRIES_LIMIT
 
--- what stands for an entry by the tables
-abbrev pub row_by : List ColumnShape → Tables → Entry → List ℕ
-row_by cs t e = row_with cs (bar_of t.bars) t.number t.clock e (cause_in t e)
+-- What stands for an entry by the tables.
+
+abbrev pub ground_by : List ColumnShape → Tables → Entry → List ℕ
+ground_by cs t e = ground_with cs (bar_of t.bars) t.number t.clock e
+
+abbrev pub marks_by : List ColumnShape → Tables → Entry → List ℕ → List ℕ
+marks_by cs t e note = marks_with cs (bar_of t.bars) t.number e (cause_in t e) note
 
 -- and by what they said before it, left of the right edge
 
@@ -95,11 +100,15 @@ abbrev pub bar_ended : List ColumnShape → ℕ → Option Ui → Option Bar →
 bar_ended cs y None b = []
 bar_ended cs y (Some q) b = bar_held cs q y b
 
-abbrev pub entry_by : ℕ → List ColumnShape → ℕ → Entry → Option Row → List ℕ
-entry_by right cs row e cause = entry_in (mark_of cause e.act) right (x_of (column_at e.place cs)) (row_y row) e
+abbrev pub entry_by : ℕ → List ColumnShape → ℕ → Entry → Option Row → List ℕ → List ℕ
+entry_by right cs row e cause note =
+    entry_in (mark_of cause e.act) right (x_of (column_at e.place cs)) (row_y row) e note
 
-abbrev pub row_behind : ℕ → List ColumnShape → Before → Entry → List ℕ
-row_behind right cs b e =
-    tick_of right (row_y b.number) (is_new_clock b.clock e.clock)
-    ++ bar_ended cs (row_y b.number) (held_port_of e.act) b.bar ++ arrow cs b.number e b.cause
-    ++ entry_by right cs b.number e b.cause
+abbrev pub ground_behind : ℕ → List ColumnShape → Before → Entry → List ℕ
+ground_behind right cs b e =
+    tick_of right (row_y b.number) (is_new_clock b.clock e.clock && not (is_setup e))
+    ++ bar_ended cs (row_y b.number) (held_port_of e.act) b.bar
+
+abbrev pub marks_behind : ℕ → List ColumnShape → Before → Entry → List ℕ → List ℕ
+marks_behind right cs b e note =
+    entry_by right cs b.number e b.cause note ++ count_by cs (row_y b.number) e (held_port_of e.act) b.bar

@@ -37,3 +37,7 @@ most_shown (Some at) = min SHOWN_LIMIT (at + 1 + SHOWN_BODY_LIMIT)
 
 abbrev pub shown_act : List ℕ → List ℕ
 shown_act act = markup (cut (most_shown (position (λ c. c == 61) act)) act)
+
+-- the text of a body, `=` and what stands for its bytes, is cut behind as many
+abbrev pub shown_body : List ℕ → List ℕ
+shown_body text = markup (cut (1 + SHOWN_BODY_LIMIT) text)

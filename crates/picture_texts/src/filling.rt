@@ -2,7 +2,7 @@
 
 ghost use Rattle.std.specs.Prelude.{◌≡◌, ◌==◌, ◌≤◌, ◌++◌, false, length, decimal, OnOk};
 ghost use Rattle.std.specs.List.{list_any, position, position_or_len};
-ghost use Rattle.picture_texts.specs.Filling.{cut, filled, markup_byte, markup, most_shown, shown, shown_act};
+ghost use Rattle.picture_texts.specs.Filling.{cut, filled, markup_byte, markup, most_shown, shown, shown_act, shown_body};
 ghost use Rattle.picture_texts.specs.Stretches.{is_special};
 
 use crate::limits::{SHORT_ACT_LIMIT, SHOWN_BODY_LIMIT, SHOWN_LIMIT};
@@ -123,6 +123,14 @@ pub fn push_shown_act(act: &[u8], out: &mut Vec<u8>) -> Result<(), AllocError>
         return push_markup(act, out);
     }
     push_cut(most_shown(equals_sign_in(act)), act, out)
+}
+
+/// Appends the text of a body, `=` and what stands for its bytes, as it stands between the tags of a
+/// picture, cut behind 24 characters. After an error a part of it may stand there.
+pub fn push_shown_body(text: &[u8], out: &mut Vec<u8>) -> Result<(), AllocError>
+    ensures { OnOk result (out.new.items ≡ out.old.items ++ shown_body text.now) }
+{
+    push_cut(1 + SHOWN_BODY_LIMIT, text, out)
 }
 
 /// Appends the act as [`push_shown_act`] does, where each of its bytes is written as itself: not searched once more.

@@ -16,6 +16,7 @@ mod limits;
 
 pub use filling::{
     plain_front, push_filled, push_markup, push_numbered, push_plain_act, push_shown,
-    push_shown_act,
+    push_shown_act, push_shown_body,
 };
 pub use laws::texts_are_read_as_they_are;
+pub use limits::SHOWN_BODY_LIMIT;

@@ -92,6 +92,7 @@ fn long_journals_are_drawn_or_refused(rt: HostRuntime) {
     assert_eq!(rt; run.status, Status::Done);
     for piece in [
         "<rect class='paper' width='812' height='38763'/>",
+        "<rect class='band' y='38192' width='812' height='40'/>",
         "<use href='#denied' x='128' y='38511'/><text x='8' y='38515'>2000</text>",
     ] {
         assert!(rt; run.written.as_str().contains(piece), "{piece}");

@@ -4,11 +4,11 @@ use Rattle.chorus_show.specs.Journal.{journal_lines}
 use Rattle.chorus_picture.proofs.Lines.{behind_them}
 use Rattle.chorus_picture.proofs.drawing.drawn.Goals as goal
 
-pub push_rows-requires-clause-within : goal.push_rows-requires-clause-within
-push_rows-requires-clause-within c = c.requires.lines.within
+pub push_layers-requires-clause-within : goal.push_layers-requires-clause-within
+push_layers-requires-clause-within c = c.requires.lines.within
 
-pub push_rows-requires-clause-lines : goal.push_rows-requires-clause-lines
-push_rows-requires-clause-lines c = (c.requires.lines.more, c.behind_lines-lines.ensures ∙ c.requires.lines.lines)
+pub push_layers-requires-clause-lines : goal.push_layers-requires-clause-lines
+push_layers-requires-clause-lines c = (c.requires.lines.more, c.behind_lines-lines.ensures ∙ c.requires.lines.lines)
 
 pub split_at-requires : goal.split_at-requires
 split_at-requires c =

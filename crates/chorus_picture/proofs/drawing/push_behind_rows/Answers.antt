@@ -1,13 +1,9 @@
-use Rattle.std.proofs.Common.{◌++◌, length, reverse, ap, ◌∙◌}
-use Rattle.std.specs.List.{flat_map}
-use Rattle.law_picture.specs.Bars.{bar}
+use Rattle.std.proofs.Common.{◌++◌, length, ap, ◌∙◌}
 use Rattle.chorus_picture.specs.Found.{foot, found_by, found_text}
 use Rattle.picture_rows.specs.Rows.{end_y}
-use Rattle.chorus_picture.specs.Sheet.{all_heads, bars_left}
-use Rattle.picture_rows.specs.Tables.{bar_of}
-use Rattle.chorus_picture.proofs.Left.{left_is}
+use Rattle.chorus_picture.specs.Sheet.{all_heads}
 use Rattle.chorus_picture.proofs.Lines.{found_is}
-use Rattle.picture_texts.proofs.Pieces.{four}
+use Rattle.picture_texts.proofs.Pieces.{three}
 use Rattle.chorus_picture.proofs.drawing.push_behind_rows.Goals as goal
 
 pub returns : goal.returns
@@ -16,10 +12,8 @@ returns c =
     let n = length es in
     let cs = c.args.columns.now in
     let end = c.end_y-end.ensures.value in
-    four c.args.out.now.items (flat_map (bars_left (λ q. bar q (reverse es)) (end_y n)) cs) (all_heads c.args.layout cs n) (found_text c.args.text.now es c.args.audit (end_y n)) (foot (end_y n))
-    c.push_bars_left.new.out.items c.push_heads.new.out.items c.push_found.new.out.items c.push_foot.new.out.items
-    (c.in_ok-push_bars_left.ensures ∙ ap (λ y. c.args.out.now.items ++ flat_map (bars_left (bar_of c.args.tables.now.bars) y) cs) end
-    ∙ ap (λ text. c.args.out.now.items ++ text) (left_is cs c.args.tables.now (reverse es) (end_y n) c.requires.tables))
+    three c.args.out.now.items (all_heads c.args.layout cs n) (found_text c.args.text.now es c.args.audit (end_y n)) (foot (end_y n))
+    c.push_heads.new.out.items c.push_found.new.out.items c.push_foot.new.out.items
     c.in_ok-push_heads.ensures
     (c.in_ok-push_found.ensures ∙ ap (λ y. c.push_heads.new.out.items ++ found_by c.args.text.now c.args.summary.now c.args.audit y) end
     ∙ ap (λ text. c.push_heads.new.out.items ++ text) (found_is c.args.text.now c.args.summary.now es c.args.audit (end_y n) c.requires.summary))

@@ -25,7 +25,8 @@ returns c =
     let m = mark_of c.args.cause e.act in
     let x : ℕ = x_of (column_at e.place c.args.columns.now) in
     let y : ℕ = row_y c.args.row in
-    let last : List ℕ = texts_piece right (y + 4) (decimal e.clock) (decimal e.seat) ++ shown_act (act_text e.act) ++ codes "</text></g>\n" in
+    let note = c.args.note.now in
+    let last : List ℕ = texts_piece right (y + 4) (decimal e.clock) (decimal e.seat) ++ shown_act (act_text e.act) ++ note ++ codes "</text></g>\n" in
     let opened : c.extend_from_slice.new.self.items ≡ o ++ mark_open m =
     cc (c.in_ok-extend_from_slice.ensures.items, c.as_bytes.ensures.value, c.mark_open.ensures, c.mark_of-mark.ensures) in
     let title : c.push_title.new.out.items ≡ c.extend_from_slice.new.self.items ++ markup (line_text e) =
@@ -36,8 +37,8 @@ returns c =
     cc (c.in_ok-push_spot.ensures, c.x_at.ensures.value, c.row_y.ensures.value) in
     let texts : c.push_texts.new.out.items ≡ c.push_spot.new.out.items ++ last =
     c.in_ok-push_texts.ensures
-    ∙ (λ i. c.push_spot.new.out.items ++ (texts_piece right (c.row_y-2.ensures.value i + 4) (line.clock i) (line.seat i) ++ shown_act (line.act i) ++ codes "</text></g>\n")) in
+    ∙ (λ i. c.push_spot.new.out.items ++ (texts_piece right (c.row_y-2.ensures.value i + 4) (line.clock i) (line.seat i) ++ shown_act (line.act i) ++ note ++ codes "</text></g>\n")) in
     five_right o (mark_open m) (markup (line_text e)) (mark_use m) (spot_piece x y) last
     c.extend_from_slice.new.self.items c.push_title.new.out.items c.extend_from_slice-2.new.self.items c.push_spot.new.out.items c.push_texts.new.out.items
     opened title place spot texts
-    ∙ ap (λ t. o ++ t) (entry_is right x y e m)
+    ∙ ap (λ t. o ++ t) (entry_is right x y e note m)

@@ -6,7 +6,7 @@ use Rattle.picture_rows.specs.Pieces.{bar_open}
 use Rattle.picture_rows.specs.Rows.{row_y}
 use Rattle.picture_rows.specs.Shapes.{bar_down, bar_in}
 use Rattle.picture_rows.proofs.PieceTexts.{bar_open_is}
-use Rattle.picture_rows.proofs.shapes.push_bar.Goals as goal
+use Rattle.picture_rows.proofs.bars.push_bar.Goals as goal
 
 pub returns : goal.returns
 unfolding bar_in

@@ -1,7 +1,7 @@
 use Rattle.std.proofs.Common.{◌-◌, ◌++◌, codes, decimal, ap, ◌∙◌}
 use Rattle.picture_rows.specs.Edge.{tick_at, tick_end}
 use Rattle.picture_texts.proofs.Pieces.{two}
-use Rattle.picture_rows.proofs.shapes.push_tick.Goals as goal
+use Rattle.picture_rows.proofs.rows.push_tick.Goals as goal
 
 pub returns : goal.returns
 unfolding tick_at
