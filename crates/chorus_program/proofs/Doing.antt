@@ -1,5 +1,5 @@
 -- What the words do, and each ending's cause.
-use Rattle.std.proofs.Common.{◌≡◌, ◌≢◌, ◌∙◌, inl, inr, ℕ, [], List, Option, None, Some, IfSome, IsSome, refl, sym, ap, subst, arith, ◌≤◌}
+use Rattle.std.proofs.Common.{◌≡◌, ◌≢◌, ◌∙◌, inl, inr, ℕ, [], List, Option, None, Some, IfSome, IsSome, refl, sym, ap, subst, arith, ◌≤◌, Err, Result}
 use Rattle.std.proofs.KnownBytes.{Consumes-nil}
 use Rattle.std.proofs.lemmas.Bool.{false≢true}
 use Rattle.chorus_ui.specs.declared.layout.Layout.{Layout}
@@ -7,7 +7,7 @@ use Rattle.chorus_ui.specs.declared.limits.TheConstants.{CLOCK_LIMIT}
 use Rattle.chorus_net.specs.declared.closed.Closed.{Closed}
 use Rattle.chorus_explore.specs.Ends.{ExploresBy}
 use Rattle.chorus_show.specs.declared.status.Status.{Status}
-use Rattle.chorus_show.specs.declared.status.Status.TheVariants.{Memory, ReadFault, WriteFault, Worn}
+use Rattle.chorus_show.specs.declared.status.Status.TheVariants.{Done, Memory, ReadFault, WriteFault, Worn}
 use Rattle.chorus_net.specs.Closing.{merge_of}
 use Rattle.chorus_nucleus.specs.declared.nucleus.Nucleus.{Nucleus}
 use Rattle.chorus_nucleus.specs.Passes.{layout_of}
@@ -15,7 +15,7 @@ use Rattle.chorus_report.specs.declared.finished.Finished.{Finished}
 use Rattle.chorus_report.specs.Ending.{EndsReading, EndsWriting}
 use Rattle.chorus_report.specs.Headline.{HasClock, Runs}
 use Rattle.chorus_report.specs.Output.{EndsUnread, summary_of, text_of}
-use Rattle.chorus_report.specs.Reading.{ReadsNoFurther}
+use Rattle.chorus_report.specs.Reading.{ReadsWithin}
 use Rattle.chorus_report.proofs.Ends.{ends-memory, gave-up-writes, none-closed, reads-as}
 use Rattle.chorus_replay.specs.Ends.{EndsAsLoad, EndsAsReplay}
 use Rattle.chorus_replay.specs.Load.{Loads}
@@ -23,6 +23,8 @@ use Rattle.chorus_replay.specs.Ordered.{Replays}
 use Rattle.chorus_run.specs.Ends.{EndsAsRun}
 use Rattle.chorus_run.specs.Threads.{HasWornOf, IsOfNucleus}
 use Rattle.chorus_audit.specs.Output.{Prints, ReadsBy}
+use Rattle.chorus_judge.specs.declared.judgement.Judgement.{Judgement}
+use Rattle.chorus_check.specs.declared.checked.Checked.{Checked}
 use Rattle.chorus_run.specs.DrawnCrew.Ends.{EndsAsCrew}
 use Rattle.chorus_run.specs.DrawnCrew.Text.{crew_text}
 use Rattle.chorus_run.specs.DrawnCrew.Takes.{TakesUnless}
@@ -30,11 +32,11 @@ use Rattle.chorus_picture.specs.Output as picture
 use Rattle.chorus_picture.specs.Output.{Draws}
 use Rattle.chorus_lossy.specs.Output as lossy
 use Rattle.chorus_lossy.specs.Output.{CarriesInput}
-use Rattle.chorus_words.specs.declared.words.TheConstants.{EXPLORE_MOST}
+use Rattle.chorus_words.specs.declared.words.TheConstants.{CHECK_MOST, EXPLORE_MOST}
 use Rattle.chorus_words.specs.declared.words.Words.{Words}
 use Rattle.chorus_words.specs.declared.words.Words.TheVariants as words
 use Rattle.chorus_program.specs.declared.running.TheConstants.{PROGRAM_SITES}
-use Rattle.chorus_program.specs.Running.{layout_asked, places_each, replay_layout, Does, DoesOnOneThread, EndsAsAudit, EndsAsExplored, EndsAsLossy, EndsAsPicture, EndsUnreadAsLoad, EndsWithCause, Suits}
+use Rattle.chorus_program.specs.Running.{layout_asked, places_each, replay_layout, Does, DoesOnOneThread, EndsAsAudit, EndsAsChecked, EndsAsExplored, EndsAsJudge, EndsAsLossy, EndsAsPicture, EndsUnreadAsLoad, EndsWithCause, Suits}
 use Rattle.chorus_program.specs.Started.{DoesOnOwn, DoesOnStarted}
 
 -- Causes.
@@ -81,6 +83,14 @@ causes-explored most f left faults reliable from rest held failures old new h = 
     none-is-some : (o : Option Closed) → o ≡ None → IsSome o → ⊥
     none-is-some o e some = false≢true (subst IsSome e some)
 
+-- A judgement.
+
+pub judged-none : (l : Layout) (f : Finished) → f ≡ record { status = Memory; closed = None } → (left old : Option (List ℕ)) → EndsAsJudge l (Err Memory) f left left old old
+judged-none l f is left old = record { is = is; reads = ([], (Consumes-nil left, omega arith)); judges = refl }
+
+pub judged-no-usage : (l : Layout) (given : Result Judgement Status) (f : Finished) (left rest old new : Option (List ℕ)) → EndsAsJudge l given f left rest old new → f.status ≡ Status.Usage → ⊥
+judged-no-usage l given f left rest old new h is = subst (λ (s : Status). ReadsBy s left rest) (sym (ap (λ (x : Finished). x.status) h.is) ∙ is) h.reads
+
 -- Where there was no memory, nothing was read or written.
 
 module _ {K : Type 0} (f : Finished) (is : f ≡ record { status = Memory; closed = None }) (held : K → Option (List ℕ)) (failures : K → ℕ) (old : K) where
@@ -103,7 +113,7 @@ module _ {K : Type 0} (f : Finished) (is : f ≡ record { status = Memory; close
   }
 
 module _ {S K : Type 0} (f : Finished) (is : f ≡ record { status = Memory; closed = None }) (left : S → Option (List ℕ)) (faults : S → ℕ) (reliable : S → Type 0) (from : S) (held : K → Option (List ℕ)) (failures : K → ℕ) (old : K) where
-  read-none : ReadsNoFurther (left from) (left from)
+  read-none : ReadsWithin (left from) (left from)
   read-none = ([], (Consumes-nil (left from), omega arith))
 
   reads-none : (l : Layout) → EndsReading l f.status left faults reliable from from
@@ -159,12 +169,27 @@ module _ {S K : Type 0} (f : Finished) (is : f ≡ record { status = Memory; clo
     };
   }
 
+  pub checked-none : (most : ℕ) → EndsAsChecked most (Err Memory) f left faults reliable from from held failures old old
+  checked-none most = record {
+    is = is;
+    checks = record {
+      reads = ends-memory replay_layout left faults reliable from from refl read-none;
+      checks = tt;
+      write_fault = λ e. absurd (let both : Memory ≡ WriteFault = cc e in cc);
+      unwritten = ((λ e. absurd (let both : Memory ≡ Done = e in cc)), λ a. refl);
+    };
+  }
+
   one-thread-none : (asked : Words) → layout_asked asked ≡ None → DoesOnOneThread asked f left faults reliable from from held failures old old
   one-thread-none words.Replay same = replays-none
   one-thread-none words.Run same = cc
   one-thread-none (words.RunOn turns) same = cc
   one-thread-none (words.Load first commands) same = record { unread = refl; loads = loads-none f is held failures old first commands }
   one-thread-none (words.Audit sites turns) same = audits-none (places_each sites turns)
+  one-thread-none words.Check same = (Err Memory, checked-none CHECK_MOST)
+  one-thread-none (words.CheckMost most) same = (Err Memory, checked-none most)
+  one-thread-none words.Judge same = (Err Memory, judged-none replay_layout f is (left from) (held old))
+  one-thread-none (words.JudgeFor sites turns) same = (Err Memory, judged-none (places_each sites turns) f is (left from) (held old))
   one-thread-none (words.Picture sites turns) same = draws-none (places_each sites turns)
   one-thread-none (words.Lossy first) same = carries-none first
   one-thread-none (words.Crew first commands) same = cc
@@ -178,6 +203,10 @@ module _ {S K : Type 0} (f : Finished) (is : f ≡ record { status = Memory; clo
   does-none n words.Replay = one-thread-none words.Replay refl
   does-none n (words.Load first commands) = one-thread-none (words.Load first commands) refl
   does-none n (words.Audit sites turns) = one-thread-none (words.Audit sites turns) refl
+  does-none n words.Check = one-thread-none words.Check refl
+  does-none n (words.CheckMost most) = one-thread-none (words.CheckMost most) refl
+  does-none n words.Judge = one-thread-none words.Judge refl
+  does-none n (words.JudgeFor sites turns) = one-thread-none (words.JudgeFor sites turns) refl
   does-none n (words.Picture sites turns) = one-thread-none (words.Picture sites turns) refl
   does-none n (words.Lossy first) = one-thread-none (words.Lossy first) refl
   does-none n words.Explore = one-thread-none words.Explore refl
@@ -197,12 +226,19 @@ replays-at l m f left faults reliable from rest held failures old new same h = s
 -- What is done has its cause, and is no Usage.
 
 module _ {S K : Type 0} (f : Finished) (left : S → Option (List ℕ)) (faults : S → ℕ) (reliable : S → Type 0) (from rest : S) (held : K → Option (List ℕ)) (failures : K → ℕ) (old new : K) where
+  pub checked-no-usage : (most : ℕ) (given : Result Checked Status) → EndsAsChecked most given f left faults reliable from rest held failures old new → f.status ≡ Status.Usage → ⊥
+  checked-no-usage most given h is = h.checks.reads.usage (sym (ap (λ (x : Finished). x.status) h.is) ∙ is)
+
   no-usage-on-one : (asked : Words) → DoesOnOneThread asked f left faults reliable from rest held failures old new → f.status ≡ Status.Usage → ⊥
   no-usage-on-one words.Replay d is = d.reads.usage is
   no-usage-on-one words.Run d is = d
   no-usage-on-one (words.RunOn turns) d is = d
   no-usage-on-one (words.Load first commands) d is = subst EndsUnread is d.loads.status
   no-usage-on-one (words.Audit sites turns) d is = subst (λ s. ReadsBy s (left from) (left rest)) is d.reads
+  no-usage-on-one words.Check d is = checked-no-usage CHECK_MOST d.0 d.1 is
+  no-usage-on-one (words.CheckMost most) d is = checked-no-usage most d.0 d.1 is
+  no-usage-on-one words.Judge d is = judged-no-usage replay_layout d.0 f (left from) (left rest) (held old) (held new) d.1 is
+  no-usage-on-one (words.JudgeFor sites turns) d is = judged-no-usage (places_each sites turns) d.0 f (left from) (left rest) (held old) (held new) d.1 is
   no-usage-on-one (words.Picture sites turns) d is = subst (λ s. picture.ReadsBy (places_each sites turns) s (left from) (left rest)) is d.reads
   no-usage-on-one (words.Crew first commands) d is = d
   no-usage-on-one words.Explore d is = d.explores.reads.usage is
@@ -216,6 +252,10 @@ module _ {S K : Type 0} (f : Finished) (left : S → Option (List ℕ)) (faults 
   with-any n (words.RunOn turns) d = absurd d
   with-any n (words.Load first commands) d = d
   with-any n (words.Audit sites turns) d = d
+  with-any n words.Check d = d
+  with-any n (words.CheckMost most) d = d
+  with-any n words.Judge d = d
+  with-any n (words.JudgeFor sites turns) d = d
   with-any n (words.Picture sites turns) d = d
   with-any n (words.Lossy first) d = d
   with-any n (words.Crew first commands) d = absurd d
@@ -229,6 +269,10 @@ module _ {S K : Type 0} (f : Finished) (left : S → Option (List ℕ)) (faults 
   no-usage n words.Replay d is = no-usage-on-one words.Replay d is
   no-usage n (words.Load first commands) d is = no-usage-on-one (words.Load first commands) d is
   no-usage n (words.Audit sites turns) d is = no-usage-on-one (words.Audit sites turns) d is
+  no-usage n words.Check d is = no-usage-on-one words.Check d is
+  no-usage n (words.CheckMost most) d is = no-usage-on-one (words.CheckMost most) d is
+  no-usage n words.Judge d is = no-usage-on-one words.Judge d is
+  no-usage n (words.JudgeFor sites turns) d is = no-usage-on-one (words.JudgeFor sites turns) d is
   no-usage n (words.Picture sites turns) d is = no-usage-on-one (words.Picture sites turns) d is
   no-usage n (words.Lossy first) d is = no-usage-on-one (words.Lossy first) d is
   no-usage n words.Explore d is = no-usage-on-one words.Explore d is
@@ -242,12 +286,6 @@ module _ {S K : Type 0} (f : Finished) (left : S → Option (List ℕ)) (faults 
   pub own-no-usage : (asked : Words) → DoesOnOwn asked f left faults reliable from rest held failures old new → f.status ≡ Status.Usage → ⊥
   own-no-usage asked d is = no-usage-on asked (layout_asked asked) d is
 
-  pub does-same : (n : Nucleus) (asked other : Words) → asked ≡ other → Does n asked f left faults reliable from rest held failures old new → Does n other f left faults reliable from rest held failures old new
-  does-same n asked other same d = subst (λ (w : Words). Does n w f left faults reliable from rest held failures old new) same d
-
-  pub own-same : (asked other : Words) → asked ≡ other → DoesOnOwn asked f left faults reliable from rest held failures old new → DoesOnOwn other f left faults reliable from rest held failures old new
-  own-same asked other same d = subst (λ (w : Words). DoesOnOwn w f left faults reliable from rest held failures old new) same d
-
   -- what is done on what was started for it
   pub on-started : (asked : Words) (o : Option Layout) → o ≡ layout_asked asked → DoesOnStarted o asked f left faults reliable from rest held failures old new → DoesOnOwn asked f left faults reliable from rest held failures old new
   on-started asked o same d = subst (λ (x : Option Layout). DoesOnStarted x asked f left faults reliable from rest held failures old new) same d
@@ -259,6 +297,10 @@ suits n words.Run same = tt
 suits n (words.RunOn turns) same = let is : layout_of n ≡ places_each PROGRAM_SITES turns = cc in sym (ap (λ (l : Layout). l.turns) is)
 suits n (words.Load first commands) same = tt
 suits n (words.Audit sites turns) same = tt
+suits n words.Check same = tt
+suits n (words.CheckMost most) same = tt
+suits n words.Judge same = tt
+suits n (words.JudgeFor sites turns) same = tt
 suits n (words.Picture sites turns) same = tt
 suits n (words.Lossy first) same = tt
 suits n words.Explore same = tt

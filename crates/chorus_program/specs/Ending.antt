@@ -3,10 +3,8 @@ use Rattle.std.specs.Prelude.{ℕ, ◌⊎◌, List, Option}
 use Rattle.std.specs.Io.KnownBytes.{Appends}
 use Rattle.chorus_io.specs.Bytes.{AppendsPrefix}
 use Rattle.chorus_io.specs.Count.{Rose}
-use Rattle.chorus_show.specs.declared.status.Status.{Status}
-use Rattle.chorus_show.specs.Faults.{fault_line}
 
--- the line of the status was written, or its first part, where the count of faults rose
-pub record IsSaid (status : Status) (old new : Option (List ℕ)) (before now : ℕ) : Type 0 where
-  pub prefix : AppendsPrefix old new (fault_line status)
-  pub whole : Appends old new (fault_line status) ⊎ Rose before now
+-- the line was written, or its first part, where the count of faults rose
+pub record IsSaid (line : List ℕ) (old new : Option (List ℕ)) (before now : ℕ) : Type 0 where
+  pub prefix : AppendsPrefix old new line
+  pub whole : Appends old new line ⊎ Rose before now

@@ -1,11 +1,16 @@
 -- What the program's words do.
 -- n is the nucleus that the program was handed. A source and a sink are seen as `EndsReading` and `EndsWriting` see
 -- them; from and rest are the source, old and new the sink, before and after.
-use Rattle.std.specs.Prelude.{◌≡◌, ◌≢◌, ◌≤◌, ◌⊎◌, ℕ, List, Option, None, Some, IfSome, IsSome}
+use Rattle.std.specs.Prelude.{◌≡◌, ◌≢◌, ◌≤◌, ◌⊎◌, ℕ, List, Option, None, Some, IfSome, IsSome, Result}
 use Rattle.chorus_io.specs.Count.{Rose}
 use Rattle.chorus_ui.specs.declared.layout.Layout.{Layout}
 use Rattle.chorus_ui.specs.declared.limits.TheConstants.{CLOCK_LIMIT}
 use Rattle.chorus_audit.specs.Output.{Prints, ReadsBy}
+use Rattle.chorus_judge.specs.declared.judgement.Judgement.{Judgement}
+use Rattle.chorus_judge.specs.Output.{Judges, status_of}
+use Rattle.chorus_check.specs.declared.checked.Checked.{Checked}
+use Rattle.chorus_check.specs.Ends as checking
+use Rattle.chorus_check.specs.Ends.{EndsAsCheck}
 use Rattle.chorus_picture.specs.Output as picture
 use Rattle.chorus_picture.specs.Output.{Draws}
 use Rattle.chorus_explore.specs.Ends.{EndsAsExplore}
@@ -22,7 +27,7 @@ use Rattle.chorus_replay.specs.Ends.{EndsAsLoad, EndsAsReplay}
 use Rattle.chorus_run.specs.Ends.{EndsAsRun}
 use Rattle.chorus_run.specs.declared.drawn_crew.names.TheConstants.{CREW_PORTS}
 use Rattle.chorus_run.specs.DrawnCrew.Ends.{EndsAsCrew}
-use Rattle.chorus_words.specs.declared.words.TheConstants.{EXPLORE_MOST}
+use Rattle.chorus_words.specs.declared.words.TheConstants.{CHECK_MOST, EXPLORE_MOST}
 use Rattle.chorus_words.specs.declared.words.Words.{Words}
 use Rattle.chorus_words.specs.declared.words.Words.TheVariants as words
 use Rattle.chorus_words.specs.Words.{Ask}
@@ -64,6 +69,13 @@ pub record EndsAsAudit (l : Layout) (finished : Finished) (left rest old new : O
   pub reads : ReadsBy finished.status left rest
   pub prints : Prints l finished.status left old new
 
+-- nothing was closed, this was found of the journal that was read, and the text that says it was written
+pub record EndsAsJudge (l : Layout) (given : Result Judgement Status) (finished : Finished)
+    (left rest old new : Option (List ℕ)) : Type 0 where
+  pub is : finished ≡ record { status = status_of given; closed = None }
+  pub reads : ReadsBy (status_of given) left rest
+  pub judges : Judges l given left old new
+
 -- nothing was closed, and the picture of what was read was written
 pub record EndsAsPicture (l : Layout) (finished : Finished) (left rest old new : Option (List ℕ)) : Type 0 where
   pub closed : finished.closed ≡ None
@@ -92,6 +104,13 @@ pub record EndsAsExplored {S K : Type 0} (most : ℕ) (finished : Finished) (lef
   pub closed : finished.closed ≡ None
   pub explores : EndsAsExplore replay_layout most finished.status left faults reliable from rest held failures old new
 
+-- nothing was closed, this was found of the claims of the scenario that was read, and the text that says it was written
+pub record EndsAsChecked {S K : Type 0} (most : ℕ) (given : Result Checked Status) (finished : Finished)
+    (left : S → Option (List ℕ)) (faults : S → ℕ) (reliable : S → Type 0) (from rest : S)
+    (held : K → Option (List ℕ)) (failures : K → ℕ) (old new : K) : Type 0 where
+  pub is : finished ≡ record { status = checking.status_of given; closed = None }
+  pub checks : EndsAsCheck replay_layout most given left faults reliable from rest held failures old new
+
 -- the layout of the nucleus that is started for what is asked: of so many places for each site as `run TURNS` asks, and
 -- of one for `run` and a crew. All else uses no nucleus, and one thread does it
 abbrev pub layout_asked : Words → Option Layout
@@ -110,6 +129,12 @@ DoesOnOneThread (words.Load first commands) finished left faults reliable from r
     EndsUnreadAsLoad first commands finished from rest held failures old new
 DoesOnOneThread (words.Audit sites turns) finished left faults reliable from rest held failures old new =
     EndsAsAudit (places_each sites turns) finished (left from) (left rest) (held old) (held new)
+DoesOnOneThread words.Judge finished left faults reliable from rest held failures old new =
+    (given : Result Judgement Status)
+    × EndsAsJudge replay_layout given finished (left from) (left rest) (held old) (held new)
+DoesOnOneThread (words.JudgeFor sites turns) finished left faults reliable from rest held failures old new =
+    (given : Result Judgement Status)
+    × EndsAsJudge (places_each sites turns) given finished (left from) (left rest) (held old) (held new)
 DoesOnOneThread (words.Picture sites turns) finished left faults reliable from rest held failures old new =
     EndsAsPicture (places_each sites turns) finished (left from) (left rest) (held old) (held new)
 DoesOnOneThread (words.Lossy first) finished left faults reliable from rest held failures old new =
@@ -118,6 +143,12 @@ DoesOnOneThread words.Explore finished left faults reliable from rest held failu
     EndsAsExplored EXPLORE_MOST finished left faults reliable from rest held failures old new
 DoesOnOneThread (words.ExploreMost most) finished left faults reliable from rest held failures old new =
     EndsAsExplored most finished left faults reliable from rest held failures old new
+DoesOnOneThread words.Check finished left faults reliable from rest held failures old new =
+    (given : Result Checked Status)
+    × EndsAsChecked CHECK_MOST given finished left faults reliable from rest held failures old new
+DoesOnOneThread (words.CheckMost most) finished left faults reliable from rest held failures old new =
+    (given : Result Checked Status)
+    × EndsAsChecked most given finished left faults reliable from rest held failures old new
 DoesOnOneThread asked finished left faults reliable from rest held failures old new = ⊥
 
 -- what the words do

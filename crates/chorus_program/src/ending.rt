@@ -5,22 +5,36 @@ ghost use Rattle.std.specs.Io.KnownBytes.{Appends};
 ghost use Rattle.std.specs.IoError.{error_kind};
 ghost use Rattle.chorus_io.specs.Bytes.{AppendsPrefix};
 ghost use Rattle.chorus_io.specs.Count.{Rose};
-ghost use Rattle.chorus_show.specs.Faults.{fault_line, status_number};
+ghost use Rattle.chorus_show.specs.Faults.{fault_line};
 ghost use Rattle.chorus_program.specs.Ending.{IsSaid};
+ghost use Rattle.chorus_program.specs.Concluding.{claim_line, end_line, exit_number, verdict_line};
 
+use crate::conclusion::Verdict;
+use chorus_check::Checked;
 use chorus_io::{Failed, Sink, write_all};
 use chorus_show::Status;
 use std::io::{self, ErrorKind};
 
-/// The exit status of the program. Where it is not 0, the line that says what went wrong goes to the sink for errors; a line that
+/// The exit status of the program: where all was done and something was found, the number of that verdict, else that of the
+/// status. The line that says what went wrong, or which claim does not hold, goes to the sink for errors, where there is one; a line that
 /// cannot be written changes no exit status. Takes no memory but what the sink takes.
-pub fn ended<K: Sink>(status: Status, errors: &mut K) -> u8
-    ensures number { result ≡ status_number status }
-    ensures line { IsSaid status (K.held errors.old) (K.held errors.new)
+pub fn ended<K: Sink>(status: Status, verdict: Option<Verdict>, errors: &mut K) -> u8
+    ensures number { result ≡ exit_number status verdict }
+    ensures line { IsSaid (end_line status verdict) (K.held errors.old) (K.held errors.new)
         (K.faults errors.old) (K.faults errors.new) }
 {
-    let _ = say(status, errors);
-    status.number()
+    let _ = say(status, verdict, errors);
+    exit_number(status, verdict)
+}
+
+/// The number of what was found where all was done, else that of the status.
+fn exit_number(status: Status, verdict: Option<Verdict>) -> u8
+    ensures { result ≡ exit_number status verdict }
+{
+    match (status, verdict) {
+        (Status::Done, Some(verdict)) => verdict.number(),
+        _ => status.number(),
+    }
 }
 
 /// How the program ends that got no words: there was no memory for them, or one of them is no text.
@@ -35,8 +49,48 @@ pub fn without_words(fault: &io::Error) -> Status
     }
 }
 
+/// Writes the line of how the program ended, if there is one.
+fn say<K: Sink>(status: Status, verdict: Option<Verdict>, errors: &mut K) -> Result<(), Failed>
+    ensures ok { OnOk result
+        (Appends (K.held errors.old) (K.held errors.new) (end_line status verdict)) }
+    ensures prefix { AppendsPrefix (K.held errors.old) (K.held errors.new)
+        (end_line status verdict) }
+    ensures failed { OnErr result (Rose (K.faults errors.old) (K.faults errors.new)) }
+{
+    match (status, verdict) {
+        (Status::Done, Some(verdict)) => say_verdict(verdict, errors),
+        _ => say_fault(status, errors),
+    }
+}
+
+/// Writes the line of what the program found, if it has one: of a claim that does not hold.
+fn say_verdict<K: Sink>(verdict: Verdict, errors: &mut K) -> Result<(), Failed>
+    ensures ok { OnOk result
+        (Appends (K.held errors.old) (K.held errors.new) (verdict_line verdict)) }
+    ensures prefix { AppendsPrefix (K.held errors.old) (K.held errors.new) (verdict_line verdict) }
+    ensures failed { OnErr result (Rose (K.faults errors.old) (K.faults errors.new)) }
+{
+    match verdict {
+        Verdict::Checked(Checked::Fails { claim }) => say_claim(claim, b" fails\n", errors),
+        Verdict::Checked(Checked::Open { claim }) => say_claim(claim, b" open\n", errors),
+        Verdict::Checked(Checked::Holds) | Verdict::Judged(_) => write_all(errors, b""),
+    }
+}
+
+/// Writes the line of a claim of which the program found this.
+fn say_claim<K: Sink>(claim: u64, found: &[u8], errors: &mut K) -> Result<(), Failed>
+    ensures ok { OnOk result
+        (Appends (K.held errors.old) (K.held errors.new) (claim_line claim found.now)) }
+    ensures prefix { AppendsPrefix (K.held errors.old) (K.held errors.new)
+        (claim_line claim found.now) }
+    ensures failed { OnErr result (Rose (K.faults errors.old) (K.faults errors.new)) }
+{
+    write_number(b"chorus: claim ", claim, errors)?;
+    write_all(errors, found)
+}
+
 /// Writes the fault line of the status with which the program ended, if it has one.
-fn say<K: Sink>(status: Status, errors: &mut K) -> Result<(), Failed>
+fn say_fault<K: Sink>(status: Status, errors: &mut K) -> Result<(), Failed>
     ensures ok { OnOk result
         (Appends (K.held errors.old) (K.held errors.new) (fault_line status)) }
     ensures prefix { AppendsPrefix (K.held errors.old) (K.held errors.new) (fault_line status) }

@@ -8,6 +8,7 @@ ghost use Rattle.chorus_replay.specs.Ordered.{AreJustStarted};
 ghost use Rattle.chorus_words.specs.declared.words.TheConstants.{LOAD_LIMIT};
 ghost use Rattle.chorus_words.specs.Words.{IsWithin};
 ghost use Rattle.chorus_program.specs.Running.{layout_asked, one_place_each, places_each, replay_layout, DoesOnOneThread, EndsAsAudit, EndsAsExplored, EndsAsLossy, EndsAsPicture, EndsWithCause};
+ghost use Rattle.chorus_program.specs.Concluding.{inquiry_in};
 
 use crate::running::PROGRAM_SITES;
 use chorus_audit::audit;
@@ -30,7 +31,7 @@ const _: () = prove!(chorus_words::LOAD_LIMIT == chorus_run::LOAD_LIMIT);
 // And a crew handles what so many give.
 const _: () = prove!(chorus_words::LOAD_LIMIT == chorus_run::DRAWS_LIMIT);
 
-/// Does what the program's words ask, where one thread does it and so no nucleus is used.
+/// Does what the program's words ask, where one thread does it and so no nucleus is used, and nothing is asked about a text.
 pub(crate) fn does_on_one_thread<S: Source, K: Sink>(
     alloc: Global,
     asked: Words,
@@ -38,6 +39,7 @@ pub(crate) fn does_on_one_thread<S: Source, K: Sink>(
     sink: &mut K,
 ) -> Finished
     requires one_thread { layout_asked asked ≡ None }
+    requires unjudged { inquiry_in asked ≡ None }
     requires within { IsWithin asked }
     ensures does { DoesOnOneThread asked result S.left S.faults S.reliable source.old source.new
         K.held K.faults sink.old sink.new }
@@ -53,6 +55,8 @@ pub(crate) fn does_on_one_thread<S: Source, K: Sink>(
         Words::Explore => start_explore(alloc, EXPLORE_MOST, source, sink),
         Words::ExploreMost { most } => start_explore(alloc, most, source, sink),
         Words::Run | Words::RunOn { .. } | Words::Crew { .. } => unreachable!(),
+        Words::Judge | Words::JudgeFor { .. } => unreachable!(),
+        Words::Check | Words::CheckMost { .. } => unreachable!(),
     }
 }
 

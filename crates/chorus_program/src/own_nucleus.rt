@@ -1,12 +1,15 @@
 //! The program with a nucleus that is started for the words that use one.
 
-ghost use Rattle.std.specs.Prelude.{◌≡◌, map};
+ghost use Rattle.std.specs.Prelude.{◌≡◌, map, None};
 ghost use Rattle.chorus_words.specs.declared.words.Words.{Words};
 ghost use Rattle.chorus_words.specs.Words.{Ask, IsTurns, IsWithin};
 ghost use Rattle.chorus_program.specs.declared.running.TheConstants.{PROGRAM_SITES};
 ghost use Rattle.chorus_program.specs.Running.{layout_asked, places_each, EndsWithCause, IsTurnedAway};
 ghost use Rattle.chorus_program.specs.Started.{AskNothing, DoesOnOwn};
+ghost use Rattle.chorus_program.specs.Concluding.{inquiry_in, ConcludesOnOwn};
 
+use crate::conclusion::{Conclusion, end_as, without_verdict};
+use crate::inquiries::{answer, inquiry_in};
 use crate::one_thread::{closed_nothing, does_on_one_thread};
 use crate::running::{PROGRAM_SITES, does};
 use chorus_io::{Sink, Source};
@@ -20,7 +23,7 @@ use std::alloc::Global;
 use std::sync::Wait;
 use std::thread::Threads;
 
-/// Does what the words say, as [`program`](crate::program) does, without a nucleus that is handed in: `run`, `run TURNS` and `crew` are
+/// Does what the words say, as [`conclude`](crate::conclude) does, without a nucleus that is handed in: `run`, `run TURNS` and `crew` are
 /// done on one that is started for them, of [`PROGRAM_SITES`] sites with as many places each as `run TURNS` asks, and one place each for
 /// the others; all other words use none, and none is started. Where there is no memory for it, nothing was read or written.
 pub fn start_program<'a, R: Threads + Wait + Sync, S: Source, K: Sink>(
@@ -29,21 +32,42 @@ pub fn start_program<'a, R: Threads + Wait + Sync, S: Source, K: Sink>(
     words: &'a [&'a str],
     source: &mut S,
     sink: &mut K,
-) -> Finished
-    ensures usage { result.status ≡ Status.Usage →
+) -> Conclusion
+    ensures usage { result.finished.status ≡ Status.Usage →
         AskNothing (map (λ word. word.now) words.now) }
     ensures unlisted { AskNothing (map (λ word. word.now) words.now) →
-        IsTurnedAway result.status × (source.new ≡ source.old) × (sink.new ≡ sink.old) }
-    ensures does { (asked : Words) → Ask (map (λ word. word.now) words.now) asked →
-        DoesOnOwn asked result S.left S.faults S.reliable source.old source.new
+        IsTurnedAway result.finished.status × (result.verdict ≡ None)
+        × (source.new ≡ source.old) × (sink.new ≡ sink.old) }
+    ensures concludes { (asked : Words) → Ask (map (λ word. word.now) words.now) asked →
+        ConcludesOnOwn asked result S.left S.faults S.reliable source.old source.new
         K.held K.faults sink.old sink.new }
-    ensures causes { EndsWithCause result S.faults S.reliable source.old source.new
+    ensures causes { EndsWithCause result.finished S.faults S.reliable source.old source.new
         K.faults sink.old sink.new }
 {
     match read_words(alloc, words) {
-        Ok(Some(asked)) => does_on_own(alloc, rt, asked, source, sink),
-        Ok(None) => closed_nothing(Status::Usage),
-        Err(_) => closed_nothing(Status::Memory),
+        Ok(Some(asked)) => conclude_on_own(alloc, rt, asked, source, sink),
+        Ok(None) => end_as(Status::Usage),
+        Err(_) => end_as(Status::Memory),
+    }
+}
+
+/// Ends as the program's words ask: what they ask about a text is answered, or what they ask is done on what is started for it.
+fn conclude_on_own<R: Threads + Wait + Sync, S: Source, K: Sink>(
+    alloc: Global,
+    rt: &R,
+    asked: Words,
+    source: &mut S,
+    sink: &mut K,
+) -> Conclusion
+    requires { IsWithin asked }
+    ensures concludes { ConcludesOnOwn asked result S.left S.faults S.reliable source.old source.new
+        K.held K.faults sink.old sink.new }
+    ensures causes { EndsWithCause result.finished S.faults S.reliable source.old source.new
+        K.faults sink.old sink.new }
+{
+    match inquiry_in(asked) {
+        Some(asks) => answer(alloc, asks, source, sink),
+        None => without_verdict(does_on_own(alloc, rt, asked, source, sink)),
     }
 }
 
@@ -55,7 +79,8 @@ fn does_on_own<R: Threads + Wait + Sync, S: Source, K: Sink>(
     source: &mut S,
     sink: &mut K,
 ) -> Finished
-    requires { IsWithin asked }
+    requires within { IsWithin asked }
+    requires unjudged { inquiry_in asked ≡ None }
     ensures does { DoesOnOwn asked result S.left S.faults S.reliable source.old source.new
         K.held K.faults sink.old sink.new }
     ensures causes { EndsWithCause result S.faults S.reliable source.old source.new

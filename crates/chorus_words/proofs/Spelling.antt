@@ -7,7 +7,7 @@ use Rattle.std.specs.Option.{IfSome, IsNone, is_some, unwrap_or}
 use Rattle.std.proofs.lemmas.Bool.Decides.{nat_tests}
 use Rattle.chorus_ui.specs.Layout.{IsLayout, Shape, is_layout, new_layout}
 use Rattle.chorus_words.specs.declared.words.Words.{Words}
-use Rattle.chorus_words.specs.declared.words.Words.TheVariants.{Replay, Run, RunOn, Load, Audit, Picture, Lossy, Crew, Explore, ExploreMost}
+use Rattle.chorus_words.specs.declared.words.Words.TheVariants.{Replay, Run, RunOn, Load, Audit, Judge, JudgeFor, Picture, Lossy, Crew, Explore, ExploreMost, Check, CheckMost}
 use Rattle.chorus_words.specs.Words.{Ask, IsTurns, IsWithin, spelled}
 use Rattle.chorus_words.specs.Cutting.{AskByThree, is_value}
 
@@ -26,12 +26,17 @@ spelled_values (RunOn turns) w = rw (decimal_value turns (omega (arith, w.turns_
 spelled_values (Load first commands) w = rw (decimal_value first w.0, decimal_value commands (omega (arith, w.1))) refl
 spelled_values (Audit sites turns) w =
     rw (decimal_value sites (omega (arith, w.sites_to_max)), decimal_value turns (omega (arith, w.turns_to_four))) refl
+spelled_values Judge w = refl
+spelled_values (JudgeFor sites turns) w =
+    rw (decimal_value sites (omega (arith, w.sites_to_max)), decimal_value turns (omega (arith, w.turns_to_four))) refl
 spelled_values (Picture sites turns) w =
     rw (decimal_value sites (omega (arith, w.sites_to_max)), decimal_value turns (omega (arith, w.turns_to_four))) refl
 spelled_values (Lossy first) w = rw (decimal_value first w) refl
 spelled_values (Crew first commands) w = rw (decimal_value first w.0, decimal_value commands (omega (arith, w.1))) refl
 spelled_values Explore w = refl
 spelled_values (ExploreMost most) w = rw (decimal_value most (omega (arith, w))) refl
+spelled_values Check w = refl
+spelled_values (CheckMost most) w = rw (decimal_value most (omega (arith, w))) refl
 
 no_word : {X : Type 0} (x : X) → None ≡ Some x → ⊥
 no_word x e = true≢false (sym (ap is_some e))
@@ -61,11 +66,15 @@ few_words Run = omega arith
 few_words (RunOn turns) = omega arith
 few_words (Load first commands) = omega arith
 few_words (Audit sites turns) = omega arith
+few_words Judge = omega arith
+few_words (JudgeFor sites turns) = omega arith
 few_words (Picture sites turns) = omega arith
 few_words (Lossy first) = omega arith
 few_words (Crew first commands) = omega arith
 few_words Explore = omega arith
 few_words (ExploreMost most) = omega arith
+few_words Check = omega arith
+few_words (CheckMost most) = omega arith
 
 -- at most three words, of which the first three ask this, ask it
 pub asks : (ws : List (List ℕ)) (what first second : Option (List ℕ)) (asked : Words) → length ws ≤ 3
@@ -90,6 +99,9 @@ other_word word four e = true≢false (sym four ∙ ap (λ (w : List ℕ). lengt
 no_picture : Some (codes "audit") ≡ Some (codes "picture") → ⊥
 no_picture e = true≢false (ap (λ (w : List ℕ). length w == 5) (the_word (codes "audit") (codes "picture") e))
 
+no_judge : Some (codes "audit") ≡ Some (codes "judge") → ⊥
+no_judge e = true≢false (ap (λ (w : List ℕ). get_or w 0 0 == 97) (the_word (codes "audit") (codes "judge") e))
+
 -- a row is known by how many words it has, by how long the first of them is, and by how that begins
 abbrev size : List (List ℕ) → ℕ
 size [] = 0
@@ -106,6 +118,10 @@ one_spelling (Load first commands) (Load f c) w v e = ap₂ Load
 one_spelling (Audit sites turns) (Audit s t) w v e = ap₂ Audit
     (same_number sites s (omega (arith, w.sites_to_max)) (omega (arith, v.sites_to_max)) (ap (λ l. slice_get l 1) e))
     (same_number turns t (omega (arith, w.turns_to_four)) (omega (arith, v.turns_to_four)) (ap (λ l. slice_get l 2) e))
+one_spelling Judge Judge w v e = refl
+one_spelling (JudgeFor sites turns) (JudgeFor s t) w v e = ap₂ JudgeFor
+    (same_number sites s (omega (arith, w.sites_to_max)) (omega (arith, v.sites_to_max)) (ap (λ l. slice_get l 1) e))
+    (same_number turns t (omega (arith, w.turns_to_four)) (omega (arith, v.turns_to_four)) (ap (λ l. slice_get l 2) e))
 one_spelling (Picture sites turns) (Picture s t) w v e = ap₂ Picture
     (same_number sites s (omega (arith, w.sites_to_max)) (omega (arith, v.sites_to_max)) (ap (λ l. slice_get l 1) e))
     (same_number turns t (omega (arith, w.turns_to_four)) (omega (arith, v.turns_to_four)) (ap (λ l. slice_get l 2) e))
@@ -115,6 +131,8 @@ one_spelling (Crew first commands) (Crew f c) w v e = ap₂ Crew
     (same_number commands c (omega (arith, w.1)) (omega (arith, v.1)) (ap (λ l. slice_get l 2) e))
 one_spelling Explore Explore w v e = refl
 one_spelling (ExploreMost most) (ExploreMost m) w v e = ap ExploreMost (same_number most m (omega (arith, w)) (omega (arith, v)) (ap (λ l. slice_get l 1) e))
+one_spelling Check Check w v e = refl
+one_spelling (CheckMost most) (CheckMost m) w v e = ap CheckMost (same_number most m (omega (arith, w)) (omega (arith, v)) (ap (λ l. slice_get l 1) e))
 one_spelling a b w v e = absurd (let same : size (spelled a) ≡ size (spelled b) = ap size e in omega (arith, same))
 
 pub ask_once : (ws : List (List ℕ)) (a b : Words) → Ask ws a → Ask ws b → a ≡ b
@@ -168,11 +186,15 @@ no_audit_of sites turns none Replay by = no_word sites (sym by.1)
 no_audit_of sites turns none Run by = no_word sites (sym by.1)
 no_audit_of sites turns none (RunOn t) by = no_word turns (sym by.2)
 no_audit_of sites turns none (Load first commands) by = other_word (codes "load") refl (sym by.0)
+no_audit_of sites turns none Judge by = no_word sites (sym by.1)
+no_audit_of sites turns none (JudgeFor s t) by = no_judge by.0
 no_audit_of sites turns none (Picture s t) by = no_picture by.0
 no_audit_of sites turns none (Lossy first) by = no_word turns (sym by.2)
 no_audit_of sites turns none (Crew first commands) by = other_word (codes "crew") refl (sym by.0)
 no_audit_of sites turns none Explore by = no_word sites (sym by.1)
 no_audit_of sites turns none (ExploreMost most) by = no_word turns (sym by.2)
+no_audit_of sites turns none Check by = no_word sites (sym by.1)
+no_audit_of sites turns none (CheckMost most) by = no_word turns (sym by.2)
 no_audit_of sites turns none (Audit s t) by = none (record { sites = s; turns = t }) by.3 (the_word sites (decimal s) by.1) (the_word turns (decimal t) by.2)
 
 pub no_audit : (sites turns : List ℕ) (what first second : Option (List ℕ)) → what ≡ Some (codes "audit") → first ≡ Some sites → second ≡ Some turns
@@ -180,6 +202,25 @@ pub no_audit : (sites turns : List ℕ) (what first second : Option (List ℕ)) 
     → (asked : Words) → AskByThree what first second asked → ⊥
 no_audit sites turns what first second e f g none asked by =
     no_audit_of sites turns none asked (sym e ∙ by.0, sym f ∙ by.1, sym g ∙ by.2, by.3)
+
+-- Of a judgement too.
+
+no_judge_of : (sites turns : List ℕ) → ((l : Shape) → IsLayout l → sites ≡ decimal l.sites → turns ≡ decimal l.turns → ⊥)
+    → (asked : Words) → AskByThree (Some (codes "judge")) (Some sites) (Some turns) asked → ⊥
+no_judge_of sites turns none (JudgeFor s t) by = none (record { sites = s; turns = t }) by.3 (the_word sites (decimal s) by.1) (the_word turns (decimal t) by.2)
+no_judge_of sites turns none Judge by = no_word sites (sym by.1)
+no_judge_of sites turns none (Audit s t) by = no_judge (sym by.0)
+no_judge_of sites turns none (Lossy first) by = no_word turns (sym by.2)
+no_judge_of sites turns none Check by = no_word sites (sym by.1)
+no_judge_of sites turns none (CheckMost most) by = no_word turns (sym by.2)
+no_judge_of sites turns none asked by =
+    absurd (let word : codes "judge" ≡ unwrap_or (slice_get (spelled asked) 0) [] = the_word (codes "judge") (unwrap_or (slice_get (spelled asked) 0) []) by.0 in let long = ap (λ (w : List ℕ). length w) word in omega (arith, long))
+
+pub no_judging : (sites turns : List ℕ) (what first second : Option (List ℕ)) → what ≡ Some (codes "judge") → first ≡ Some sites → second ≡ Some turns
+    → ((l : Shape) → IsLayout l → sites ≡ decimal l.sites → turns ≡ decimal l.turns → ⊥)
+    → (asked : Words) → AskByThree what first second asked → ⊥
+no_judging sites turns what first second e f g none asked by =
+    no_judge_of sites turns none asked (sym e ∙ by.0, sym f ∙ by.1, sym g ∙ by.2, by.3)
 
 -- Of a picture too.
 
@@ -227,3 +268,20 @@ no_explore_of word none asked by =
 pub no_explore : (word : List ℕ) (what first second : Option (List ℕ)) → what ≡ Some (codes "explore") → first ≡ Some word → second ≡ None
     → ((n : ℕ) → n < 2 ^ 32 → word ≡ decimal n → ⊥) → (asked : Words) → AskByThree what first second asked → ⊥
 no_explore word what first second e f g none asked by = no_explore_of word none asked (sym e ∙ by.0, sym f ∙ by.1, sym g ∙ by.2, by.3)
+
+no_lossy : Some (codes "check") ≡ Some (codes "lossy") → ⊥
+no_lossy e = true≢false (ap (λ (w : List ℕ). get_or w 0 0 == 99) (the_word (codes "check") (codes "lossy") e))
+
+no_check_of : (word : List ℕ) → ((n : ℕ) → n < 2 ^ 32 → word ≡ decimal n → ⊥) → (asked : Words) → AskByThree (Some (codes "check")) (Some word) None asked → ⊥
+no_check_of word none (CheckMost n) by = none n by.3 (the_word word (decimal n) by.1)
+no_check_of word none Check by = no_word word (sym by.1)
+no_check_of word none Judge by = no_word word (sym by.1)
+no_check_of word none (Audit sites turns) by = no_word (decimal turns) by.2
+no_check_of word none (JudgeFor sites turns) by = no_word (decimal turns) by.2
+no_check_of word none (Lossy first) by = no_lossy by.0
+no_check_of word none asked by =
+    absurd (let first : codes "check" ≡ unwrap_or (slice_get (spelled asked) 0) [] = the_word (codes "check") (unwrap_or (slice_get (spelled asked) 0) []) by.0 in let long = ap (λ (w : List ℕ). length w) first in omega (arith, long))
+
+pub no_check : (word : List ℕ) (what first second : Option (List ℕ)) → what ≡ Some (codes "check") → first ≡ Some word → second ≡ None
+    → ((n : ℕ) → n < 2 ^ 32 → word ≡ decimal n → ⊥) → (asked : Words) → AskByThree what first second asked → ⊥
+no_check word what first second e f g none asked by = no_check_of word none asked (sym e ∙ by.0, sym f ∙ by.1, sym g ∙ by.2, by.3)

@@ -4,7 +4,7 @@ use Rattle.std.specs.Prelude.{ℕ, ◌≡◌, ◌^◌, ◌<◌, ◌≤◌, List,
 use Rattle.chorus_ui.specs.Layout.{IsLayout}
 use Rattle.chorus_words.specs.declared.words.TheConstants.{LOAD_LIMIT}
 use Rattle.chorus_words.specs.declared.words.Words.{Words}
-use Rattle.chorus_words.specs.declared.words.Words.TheVariants.{Replay, Run, RunOn, Load, Audit, Picture, Lossy, Crew, Explore, ExploreMost}
+use Rattle.chorus_words.specs.declared.words.Words.TheVariants.{Replay, Run, RunOn, Load, Audit, Judge, JudgeFor, Picture, Lossy, Crew, Explore, ExploreMost, Check, CheckMost}
 
 abbrev pub spelled : Words → List (List ℕ)
 spelled Replay = codes "replay" ∷ []
@@ -12,11 +12,15 @@ spelled Run = codes "run" ∷ []
 spelled (RunOn turns) = codes "run" ∷ decimal turns ∷ []
 spelled (Load first commands) = codes "load" ∷ decimal first ∷ decimal commands ∷ []
 spelled (Audit sites turns) = codes "audit" ∷ decimal sites ∷ decimal turns ∷ []
+spelled Judge = codes "judge" ∷ []
+spelled (JudgeFor sites turns) = codes "judge" ∷ decimal sites ∷ decimal turns ∷ []
 spelled (Picture sites turns) = codes "picture" ∷ decimal sites ∷ decimal turns ∷ []
 spelled (Lossy first) = codes "lossy" ∷ decimal first ∷ []
 spelled (Crew first commands) = codes "crew" ∷ decimal first ∷ decimal commands ∷ []
 spelled Explore = codes "explore" ∷ []
 spelled (ExploreMost most) = codes "explore" ∷ decimal most ∷ []
+spelled Check = codes "check" ∷ []
+spelled (CheckMost most) = codes "check" ∷ decimal most ∷ []
 
 -- a site may have so many places: a layout has 1, 2 or 4
 abbrev pub IsTurns : ℕ → Type 0
@@ -29,11 +33,15 @@ IsWithin Run = Unit {0}
 IsWithin (RunOn turns) = IsTurns turns
 IsWithin (Load first commands) = (first < 2 ^ 64) × (commands ≤ LOAD_LIMIT)
 IsWithin (Audit sites turns) = IsLayout (record { sites = sites; turns = turns })
+IsWithin Judge = Unit {0}
+IsWithin (JudgeFor sites turns) = IsLayout (record { sites = sites; turns = turns })
 IsWithin (Picture sites turns) = IsLayout (record { sites = sites; turns = turns })
 IsWithin (Lossy first) = first < 2 ^ 64
 IsWithin (Crew first commands) = (first < 2 ^ 64) × (commands ≤ LOAD_LIMIT)
 IsWithin Explore = Unit {0}
 IsWithin (ExploreMost most) = most < 2 ^ 32
+IsWithin Check = Unit {0}
+IsWithin (CheckMost most) = most < 2 ^ 32
 
 -- these words ask this
 abbrev pub Ask : List (List ℕ) → Words → Type 0

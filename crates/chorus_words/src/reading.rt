@@ -70,6 +70,14 @@ fn asked_by(what: Option<&str>, first: Option<&str>, second: Option<&str>) -> Op
                 turns: layout.turns(),
             })
         }
+        ("judge", None, None) => Some(Words::Judge),
+        ("judge", Some(sites), Some(turns)) => {
+            let layout = layout_of(sites, turns)?;
+            Some(Words::JudgeFor {
+                sites: layout.sites(),
+                turns: layout.turns(),
+            })
+        }
         ("picture", Some(sites), Some(turns)) => {
             let layout = layout_of(sites, turns)?;
             Some(Words::Picture {
@@ -86,6 +94,10 @@ fn asked_by(what: Option<&str>, first: Option<&str>, second: Option<&str>) -> Op
         }),
         ("explore", None, None) => Some(Words::Explore),
         ("explore", Some(most), None) => Some(Words::ExploreMost {
+            most: most_of(most)?,
+        }),
+        ("check", None, None) => Some(Words::Check),
+        ("check", Some(most), None) => Some(Words::CheckMost {
             most: most_of(most)?,
         }),
         _ => None,
@@ -133,7 +145,7 @@ fn commands_of(word: &str) -> Option<u32>
     }
 }
 
-/// The most events of an exploration, a number of 32 bits whose decimal the program's word is. None exactly where there is none.
+/// The most events of an exploration or a check, a number of 32 bits whose decimal the program's word is. None exactly where there is none.
 fn most_of(word: &str) -> Option<u32>
     ensures some { IfSome result (λ n. word.now ≡ decimal n) }
     ensures none { IsNone result → (n : ℕ) → n < 2 ^ 32 → ¬ (word.now ≡ decimal n) }

@@ -6,6 +6,9 @@ pub const LOAD_LIMIT: u32 = 65_536;
 /// The most events that the word `explore` alone asks to be carried out.
 pub const EXPLORE_MOST: u32 = 1_000_000;
 
+/// The most events that the word `check` alone asks to be carried out.
+pub const CHECK_MOST: u32 = 1_000_000;
+
 /// What the program's words ask.
 #[derive(Clone, Copy, Debug, PartialEq, Eq)]
 pub enum Words {
@@ -19,6 +22,10 @@ pub enum Words {
     Load { first: u64, commands: u32 },
     /// `audit SITES TURNS`: a printed journal is audited, for so many sites with so many places each: a layout that exists.
     Audit { sites: u16, turns: u16 },
+    /// `judge`: a printed journal is judged, for 16 sites of one place each.
+    Judge,
+    /// `judge SITES TURNS`: so it is for a layout as of an audit.
+    JudgeFor { sites: u16, turns: u16 },
     /// `picture SITES TURNS`: a printed journal is drawn, for a layout as of an audit.
     Picture { sites: u16, turns: u16 },
     /// `lossy FIRST`: the input is carried over a line whose losses are drawn from the first state on.
@@ -30,4 +37,8 @@ pub enum Words {
     Explore,
     /// `explore MOST`: so it is with so many events at most.
     ExploreMost { most: u32 },
+    /// `check`: each claim of a scenario is checked over every schedule, with at most [`CHECK_MOST`] events carried out.
+    Check,
+    /// `check MOST`: so it is with so many events at most.
+    CheckMost { most: u32 },
 }

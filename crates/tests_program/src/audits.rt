@@ -1,6 +1,7 @@
-//! What the program prints is audited, and drawn, by the program.
+//! What the program prints is audited, judged and drawn by the program.
 
-use crate::ground::{assert_prints, assert_same, run_on};
+use crate::ground::{assert_prints, assert_same, run_on, sink_of};
+use chorus_program::ended;
 use chorus_show::Status;
 use tests_rows::RETRY_ACROSS_A_MOVE_IS_ACCEPTED_ONCE;
 
@@ -30,6 +31,64 @@ fn audit_of_real_outputs(rt: HostRuntime) {
         ("1", MADE_AT_PLACE_61, "wrong line 2 rule 0\n"),
     ] {
         assert_prints(&rt, rt.alloc(), &["audit", "16", turns], journal, verdict);
+    }
+}
+
+/// A message is posted to another place, and nothing more is told of it.
+pub(crate) const LEFT_OPEN: &str = "\
+journal 2
+1 2 0 make 2.p.1 2.a.1 4
+2 1 1 post 1:1:0 port 2.p.1 plain =a
+summary
+posted 1
+accepted 0
+taken 0
+queued 0
+moving 0
+refused 0
+stale 0
+departs 0
+end
+";
+
+/// What `judge` writes of it.
+pub(crate) const WHAT_IS_LEFT_OPEN: &str =
+    "legal 2\nopen 1\nline 3 message 1:1:0 without verdict\n";
+
+/// What the program's word `judge` finds in journals, and the exit status with which it ends.
+#[test]
+fn judgements_and_their_exit_status(rt: HostRuntime) {
+    let alloc = rt.alloc();
+    let moved = RETRY_ACROSS_A_MOVE_IS_ACCEPTED_ONCE.printed;
+    let each: [(&[&str], &str, &str, u8); 5] = [
+        (&["judge"], moved, "legal 27\nopen 0\n", 0),
+        (
+            &["judge", "16", "4"],
+            MADE_AT_PLACE_61,
+            "legal 1\nopen 0\n",
+            0,
+        ),
+        (
+            &["judge"],
+            MADE_AT_PLACE_61,
+            "wrong line 2 rule 0\nopen 0\n",
+            7,
+        ),
+        (&["judge"], LEFT_OPEN, WHAT_IS_LEFT_OPEN, 8),
+        (&["audit", "16", "1"], LEFT_OPEN, "legal 2\n", 0),
+    ];
+    for (words, journal, printed, number) in each {
+        let run = run_on(&rt, alloc, words, journal);
+        assert_same(&rt, run.status, Status::Done, words);
+        assert_same(&rt, run.written.as_str(), printed, words);
+        let mut errors = sink_of(&rt, alloc, 64, &[]);
+        assert_same(
+            &rt,
+            ended(run.status, run.verdict, &mut errors),
+            number,
+            words,
+        );
+        assert!(rt; errors.bytes().is_empty(), "{words:?}");
     }
 }
 

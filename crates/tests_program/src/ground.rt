@@ -3,7 +3,7 @@
 //! The contract of `start_program` is long, so it is called in one function, which is generic in its source and sink.
 
 use chorus_io::{MemSink, MemSource, Sink, Source};
-use chorus_program::start_program;
+use chorus_program::{Verdict, start_program};
 use chorus_show::Status;
 use std::alloc::Global;
 use std::fmt::Debug;
@@ -11,22 +11,24 @@ use std::process::Abort;
 use std::sync::Wait;
 use std::thread::Threads;
 
-/// How the program ended, and what it wrote.
+/// How the program ended, what was found, and what it wrote.
 #[derive(Drop)]
 pub(crate) struct Run {
     pub(crate) status: Status,
+    pub(crate) verdict: Option<Verdict>,
     pub(crate) written: String,
 }
 
-/// Starts the program with these words over this source and sink, and gives the status with which it ends.
-fn status_of<R: Abort + Threads + Wait + Sync, S: Source, K: Sink>(
+/// Starts the program with these words over this source and sink, and gives how it ends.
+fn end_of<R: Abort + Threads + Wait + Sync, S: Source, K: Sink>(
     rt: &R,
     alloc: Global,
     words: &[&str],
     source: &mut S,
     sink: &mut K,
-) -> Status {
-    start_program(alloc, rt, words, source, sink).status
+) -> (Status, Option<Verdict>) {
+    let end = start_program(alloc, rt, words, source, sink);
+    (end.finished.status, end.verdict)
 }
 
 /// A source of the text for a test of the program, of which no read fails.
@@ -69,9 +71,10 @@ pub(crate) fn run_over(
 ) -> Run {
     let mut source = source_of(rt, alloc, input);
     let mut sink = sink_of(rt, alloc, most, failing);
-    let status = status_of(rt, alloc, words, &mut source, &mut sink);
+    let (status, verdict) = end_of(rt, alloc, words, &mut source, &mut sink);
     Run {
         status,
+        verdict,
         written: text_in(rt, alloc, &sink),
     }
 }

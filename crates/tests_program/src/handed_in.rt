@@ -1,17 +1,19 @@
 //! The program with a nucleus that is handed in: words that it does there, words that need none, and words for which the nucleus has
 //! not the places.
 //!
-//! The contract of `program` is long, so it is called in one function, which is generic in its source and sink.
+//! The contracts of `program` and `conclude` are long, so each is called in one function, which is generic in its source and sink.
 
 ghost use Rattle.chorus_nucleus.specs.Passes.{IsPassOf};
 ghost use Rattle.chorus_perform.specs.Scripts.{IsOpening};
 
+use crate::audits::{LEFT_OPEN, WHAT_IS_LEFT_OPEN};
 use crate::crews::FEW;
 use crate::ground::{Run, assert_same, sink_of, source_of, text_in};
 use crate::words::LOADS_ONE_COMMAND;
 use chorus_io::{Sink, Source};
+use chorus_judge::Judgement;
 use chorus_nucleus::{Nucleus, Pass};
-use chorus_program::program;
+use chorus_program::{Verdict, conclude, program};
 use chorus_run::OpenGate;
 use chorus_show::Status;
 use chorus_ui::Layout;
@@ -51,6 +53,20 @@ fn status_with<R: Abort + Threads + Wait + Sync, S: Source, K: Sink>(
     program(alloc, rt, words, source, sink, nucleus, pass, &OpenGate).status
 }
 
+/// The same, and what was found.
+fn end_with<R: Abort + Threads + Wait + Sync, S: Source, K: Sink>(
+    rt: &R,
+    alloc: Global,
+    places: (u16, u16),
+    words: &[&str],
+    source: &mut S,
+    sink: &mut K,
+) -> (Status, Option<Verdict>) {
+    let (nucleus, pass) = started(rt, alloc, places.0, places.1);
+    let end = conclude(alloc, rt, words, source, sink, nucleus, pass, &OpenGate);
+    (end.finished.status, end.verdict)
+}
+
 /// What the program does for these words and this input with a nucleus of so many sites and places.
 fn run_with(
     rt: &(impl Abort + Threads + Wait + Sync),
@@ -61,9 +77,10 @@ fn run_with(
 ) -> Run {
     let mut source = source_of(rt, alloc, input);
     let mut sink = sink_of(rt, alloc, 64, &[]);
-    let status = status_with(rt, alloc, places, words, &mut source, &mut sink);
+    let (status, verdict) = end_with(rt, alloc, places, words, &mut source, &mut sink);
     Run {
         status,
+        verdict,
         written: text_in(rt, alloc, &sink),
     }
 }
@@ -100,9 +117,25 @@ fn assert_turned_away(rt: &(impl Abort + Threads + Wait + Sync), alloc: Global) 
     }
 }
 
+/// Asserts that a journal is judged whatever nucleus is handed in, and that the end without the judgement is the same.
+fn assert_judged(rt: &(impl Abort + Threads + Wait + Sync), alloc: Global) {
+    let words: &[&str] = &["judge"];
+    let run = run_with(rt, alloc, (1, 2), words, LEFT_OPEN);
+    let open = (Status::Done, Some(Verdict::Judged(Judgement::Open)));
+    assert_same(rt, (run.status, run.verdict), open, words);
+    assert_same(rt, run.written.as_str(), WHAT_IS_LEFT_OPEN, words);
+    let mut source = source_of(rt, alloc, LEFT_OPEN);
+    let mut sink = sink_of(rt, alloc, 64, &[]);
+    let status = status_with(rt, alloc, (1, 2), words, &mut source, &mut sink);
+    assert_same(rt, status, Status::Done, words);
+    let written = text_in(rt, alloc, &sink);
+    assert_same(rt, written.as_str(), WHAT_IS_LEFT_OPEN, words);
+}
+
 /// The program is handed a nucleus, uses it where it has the places that the words ask, and else is Usage.
 #[test]
 fn a_nucleus_is_handed_in(rt: HostRuntime) {
     assert_done(&rt, rt.alloc());
+    assert_judged(&rt, rt.alloc());
     assert_turned_away(&rt, rt.alloc());
 }

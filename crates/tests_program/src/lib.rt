@@ -5,6 +5,8 @@
 #[cfg(test)]
 mod audits;
 #[cfg(test)]
+mod claims;
+#[cfg(test)]
 mod crews;
 #[cfg(test)]
 mod drawn_scenarios;

@@ -26,7 +26,7 @@ const MOST: &str = "18446744073709551615";
 fn assert_listed(rt: &impl Abort, alloc: Global) {
     let first = u64::MAX;
     let commands = 65_536;
-    let listed: [(&[&str], Words); 13] = [
+    let listed: [(&[&str], Words); 17] = [
         (&["replay"], Words::Replay),
         (&["run"], Words::Run),
         (&["run", "1"], Words::RunOn { turns: 1 }),
@@ -36,6 +36,16 @@ fn assert_listed(rt: &impl Abort, alloc: Global) {
         (&["load", "7", "65536"], Words::Load { first: 7, commands }),
         (&["load", MOST, "65536"], Words::Load { first, commands }),
         (&["crew", MOST, "65536"], Words::Crew { first, commands }),
+        (&["check"], Words::Check),
+        (&["check", "0"], Words::CheckMost { most: 0 }),
+        (&["judge"], Words::Judge),
+        (
+            &["judge", "16", "4"],
+            Words::JudgeFor {
+                sites: 16,
+                turns: 4,
+            },
+        ),
         (
             &["picture", "16", "4"],
             Words::Picture {
@@ -57,7 +67,7 @@ fn assert_listed(rt: &impl Abort, alloc: Global) {
 
 /// Asserts that nothing is read in words that the list of the program's uses has not: too few, too many, and numbers beyond a limit.
 fn assert_unlisted(rt: &impl Abort, alloc: Global) {
-    let unlisted: [&[&str]; 17] = [
+    let unlisted: [&[&str]; 22] = [
         &["run", "0"],
         &["run", "3"],
         &["run", "8"],
@@ -69,6 +79,11 @@ fn assert_unlisted(rt: &impl Abort, alloc: Global) {
         &["load", "7", "1", "1"],
         &["crew", "7", "65537"],
         &["crew", "7", "1", "1"],
+        &["check", "4294967296"],
+        &["check", "1", "1"],
+        &["judge", "16"],
+        &["judge", "17", "1"],
+        &["judge", "16", "3"],
         &["picture", "16"],
         &["picture", "17", "1"],
         &["picture", "16", "3"],

@@ -1,18 +1,6 @@
-use Rattle.std.proofs.Common.{◌≡◌, Some, None, ap, sym, ◌∙◌}
-use Rattle.chorus_report.specs.declared.finished.Finished.{Finished}
-use Rattle.chorus_program.proofs.Doing.{does-none, does-same, no-usage}
+use Rattle.chorus_program.proofs.Concluding.{concluded-is-done}
 use Rattle.chorus_program.proofs.running.program.Goals as goal
 
-pub returns-in-Ok-Some-clause-usage : goal.returns-in-Ok-Some-clause-usage
-returns-in-Ok-Some-clause-usage g c is = absurd (no-usage c.does.result _ _ _ _ _ _ _ _ _ c.args.nucleus c.in-Ok-Some.asked c.does.ensures.does is)
-
-pub returns-in-Ok-Some-clause-does : goal.returns-in-Ok-Some-clause-does
-returns-in-Ok-Some-clause-does g c other asks =
-    let same : c.in-Ok-Some.asked ≡ other = cc (c.in-Ok-Some.ensures.listed other asks, c.in-Ok-Some.field-0-is) in
-    does-same c.does.result _ _ _ _ _ _ _ _ _ c.args.nucleus c.in-Ok-Some.asked other same c.does.ensures.does
-
-pub returns-in-Ok-None-clause-does : goal.returns-in-Ok-None-clause-does
-returns-in-Ok-None-clause-does g c asked asks = absurd (cc (c.in-Ok-None.ensures.listed asked asks, c.in-Ok-None.field-0-is))
-
-pub returns-in-Err-clause-does : goal.returns-in-Err-clause-does
-returns-in-Err-clause-does g c asked asks = does-none c.turn_away-in-Err.result c.turn_away-in-Err.ensures _ _ _ _ _ _ _ c.args.nucleus asked
+pub returns-clause-does : goal.returns-clause-does
+returns-clause-does g c asked asks =
+    concluded-is-done c.conclude.result _ _ _ _ _ _ _ _ _ c.args.nucleus asked (c.conclude.ensures.concludes asked asks)

@@ -1,0 +1,132 @@
+//! What the words do that ask what is to be found of a text.
+
+ghost use Rattle.std.specs.Prelude.{◌≡◌, None, Some};
+ghost use Rattle.chorus_words.specs.Words.{IsWithin};
+ghost use Rattle.chorus_judge.specs.Output as judging;
+ghost use Rattle.chorus_check.specs.Ends as checking;
+ghost use Rattle.chorus_program.specs.Concluding.{checked_in, inquiry_in, judged_in, Answers, ConcludesAsCheck, ConcludesAsJudge};
+ghost use Rattle.chorus_program.specs.Running.{EndsWithCause};
+
+use crate::conclusion::{Conclusion, Verdict, end_as};
+use crate::one_thread::closed_nothing;
+use crate::running::PROGRAM_SITES;
+use chorus_check::{Checked, check};
+use chorus_io::{Sink, Source};
+use chorus_judge::{Judgement, judge};
+use chorus_show::Status;
+use chorus_ui::Layout;
+use chorus_words::{CHECK_MOST, Words};
+use std::alloc::Global;
+
+/// What is asked about a text.
+#[derive(Clone, Copy)]
+pub(crate) enum Inquiry {
+    /// What a journal is, for this layout.
+    Judge { layout: Layout },
+    /// What is so of the claims of a scenario, with at most so many events carried out.
+    Check { most: u32 },
+}
+
+/// What the program's words ask about a text. None where they ask nothing.
+pub(crate) fn inquiry_in(asked: Words) -> Option<Inquiry>
+    requires { IsWithin asked }
+    ensures { result ≡ inquiry_in asked }
+{
+    match asked {
+        Words::Judge => Some(Inquiry::Judge {
+            layout: Layout::new(PROGRAM_SITES, 1).unwrap(),
+        }),
+        Words::JudgeFor { sites, turns } => Some(Inquiry::Judge {
+            layout: Layout::new(sites, turns).unwrap(),
+        }),
+        Words::Check => Some(Inquiry::Check { most: CHECK_MOST }),
+        Words::CheckMost { most } => Some(Inquiry::Check { most }),
+        _ => None,
+    }
+}
+
+/// Answers what the program's words ask about the text that the source gives.
+pub(crate) fn answer<S: Source, K: Sink>(
+    alloc: Global,
+    inquiry: Inquiry,
+    source: &mut S,
+    sink: &mut K,
+) -> Conclusion
+    ensures answers { Answers inquiry result S.left S.faults S.reliable source.old source.new
+        K.held K.faults sink.old sink.new }
+    ensures causes { EndsWithCause result.finished S.faults S.reliable source.old source.new
+        K.faults sink.old sink.new }
+{
+    match inquiry {
+        Inquiry::Judge { layout } => judge_for(alloc, layout, source, sink),
+        Inquiry::Check { most } => check_for(alloc, most, source, sink),
+    }
+}
+
+/// Does the program's word `judge`: judges what the source gives, for this layout.
+fn judge_for<S: Source, K: Sink>(
+    alloc: Global,
+    layout: Layout,
+    source: &mut S,
+    sink: &mut K,
+) -> Conclusion
+    ensures judges { ConcludesAsJudge layout result
+        (S.left source.old) (S.left source.new) (K.held sink.old) (K.held sink.new) }
+    ensures causes { EndsWithCause result.finished S.faults S.reliable source.old source.new
+        K.faults sink.old sink.new }
+{
+    judged(judge(alloc, layout, source, sink))
+}
+
+/// Does the program's word `check`: checks the claims of the scenario that the source gives, with at most so many events carried out.
+fn check_for<S: Source, K: Sink>(
+    alloc: Global,
+    most: u32,
+    source: &mut S,
+    sink: &mut K,
+) -> Conclusion
+    ensures checks { ConcludesAsCheck most result S.left S.faults S.reliable source.old source.new
+        K.held K.faults sink.old sink.new }
+    ensures causes { EndsWithCause result.finished S.faults S.reliable source.old source.new
+        K.faults sink.old sink.new }
+{
+    let layout = Layout::new(PROGRAM_SITES, 1).unwrap();
+    checked(check(alloc, layout, most, source, sink))
+}
+
+/// The end of the program by what a judgement gives.
+fn judged(given: Result<Judgement, Status>) -> Conclusion
+    ensures finished { result.finished
+        ≡ record { status = judging.status_of given; closed = None } }
+    ensures verdict { result.verdict ≡ judged_in given }
+{
+    match given {
+        Ok(judgement) => found(Verdict::Judged(judgement)),
+        Err(status) => end_as(status),
+    }
+}
+
+/// The end of the program by what a check gives.
+fn checked(given: Result<Checked, Status>) -> Conclusion
+    ensures finished { result.finished
+        ≡ record { status = checking.status_of given; closed = None } }
+    ensures verdict { result.verdict ≡ checked_in given }
+{
+    match given {
+        Ok(checked) => found(Verdict::Checked(checked)),
+        Err(status) => end_as(status),
+    }
+}
+
+/// The end of the program where this was found, and all was done.
+fn found(verdict: Verdict) -> Conclusion
+    ensures { result ≡ record {
+      finished = record { status = Status.Done; closed = None };
+      verdict = Some verdict;
+    } }
+{
+    Conclusion {
+        finished: closed_nothing(Status::Done),
+        verdict: Some(verdict),
+    }
+}
