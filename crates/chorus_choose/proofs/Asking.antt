@@ -1,12 +1,14 @@
 -- Ports that are asked one after another.
 -- n is a nucleus, l a layout, q a port, a, b and c are the pass at three moments, v, m and u are what a pass knows at three moments.
-use Rattle.std.proofs.Common.{◌≡◌, ℕ, zero, suc, ◌+◌, ◌<◌, length, take, drop, get_or, arith, Some, None, Result, Ok, Err, List, [], ◌∷◌, ◌++◌, refl, inl, inr, sym, ap, subst, ◌∙◌, append_assoc}
+use Rattle.std.proofs.Common.{◌≡◌, ℕ, zero, suc, ◌+◌, ◌*◌, ◌<◌, length, length-append, append-nil, take, drop, get_or, arith, Some, None, Result, Ok, Err, List, [], ◌∷◌, ◌++◌, refl, inl, inr, sym, ap, subst, ◌∙◌, append_assoc}
 use Rattle.chorus_ui.specs.declared.ui.Ui.{Ui}
 use Rattle.chorus_ui.specs.declared.layout.Layout.{Layout}
 use Rattle.chorus_entry.specs.declared.act.Act.{Act}
 use Rattle.law_machine.specs.declared.reply.Reply.{Reply}
 use Rattle.law_replies.specs.Taking.{taken_acts}
+use Rattle.std.proofs.lemmas.List.{length-map}
 use Rattle.chorus_turn.specs.declared.knowledge.Knowledge.{Knowledge}
+use Rattle.chorus_turn.specs.declared.knowledge.Placed.{Placed}
 use Rattle.law_closing.specs.Places.{PlaceNote}
 use Rattle.chorus_nucleus.specs.declared.fault.CallFault.{CallFault}
 use Rattle.chorus_nucleus.specs.declared.nucleus.Nucleus.{Nucleus}
@@ -24,7 +26,10 @@ use Rattle.chorus_choose.specs.declared.chooser.Enabled.{Enabled}
 use Rattle.chorus_choose.specs.declared.received.Received.{Received}
 use Rattle.chorus_choose.specs.declared.received.Received.TheVariants as receives
 use Rattle.chorus_choose.specs.Looking.{ports_of}
-use Rattle.chorus_choose.specs.Rounds.{AreMisses, Missed, GivesAfter, Receives, IsReceive}
+use Rattle.chorus_choose.specs.declared.bell_ends.Waiter.{Waiter}
+use Rattle.chorus_choose.specs.Bells.{notes_of}
+use Rattle.chorus_choose.specs.Rounds.{AreMisses, Missed, GivesAfter, Receives, IsReceive, rounds}
+use Rattle.chorus_choose.specs.Waits.{HasWaited, made_behind}
 
 -- Ports in vain.
 
@@ -175,5 +180,51 @@ after-rounds n earlier ports (Err e) a b c f s = record {
 pub round-more : (n : Nucleus) (earlier ports : List Ui) (looked : ℕ) (a b c : Pass) → Looked n earlier a b → IsReceive n [] ports (Ok (receives.Empty looked)) b c → Looked n (earlier ++ ports) a c
 round-more n earlier ports looked a b c f s =
     looked-append n earlier ports a b c f record { keeps = s.keeps; missed = s.received.1; worn = s.worn ∙ worn-ok (worn_by b) (receives.Empty looked) }
+
+-- How much a pass has made behind rounds in vain.
+
+misses-length : (qs : List Ui) (acts : List Act) → AreMisses qs acts → length acts ≡ length qs
+misses-length [] [] m = refl
+misses-length [] (b ∷ acts) m = absurd m
+misses-length (q ∷ qs) [] m = absurd m
+misses-length (q ∷ qs) (b ∷ acts) m = ap suc (misses-length qs acts m.1)
+
+looked-length : (n : Nucleus) (asked : List Ui) (a b : Pass) → Looked n asked a b → length (known b).mine ≡ length (known a).mine + length asked
+looked-length n asked a b h =
+    let g = h.missed.appends in
+    let whole : length (known b).mine ≡ length ((known a).mine ++ g.news) = ap (λ (zs : List (Placed PlaceNote)). length zs) g.grown in
+    let parts = length-append (known a).mine g.news in
+    let made = length-map g.news (λ (m : Placed PlaceNote). m.remarked.entry.act) in
+    let acts = ap (λ (zs : List Act). length zs) g.acts_are in
+    let each = misses-length asked h.missed.acts h.missed.misses in
+    omega (arith, whole, parts, made, acts, each)
+
+rounds-length : (count : ℕ) (ports : List Ui) → length (rounds count ports) ≡ count * length ports
+rounds-length zero ports = let e : 0 ≡ 0 * length ports = grind arith in e
+rounds-length (suc count) ports =
+    let parts = length-append (rounds count ports) ports in
+    let more = rounds-length count ports in
+    let times : suc count * length ports ≡ count * length ports + length ports = grind arith in
+    omega (arith, parts, more, times)
+
+pub waited-none : (ports : List Ui) (a : Pass) (w : Waiter) → HasWaited 0 ports a w w
+waited-none ports a w = record { taken = omega arith; behind = sym (append-nil (notes_of w)) }
+
+-- one wait more, behind one round more
+pub waited-more : (n : Nucleus) (count : ℕ) (ports : List Ui) (a b : Pass) (w x y : Waiter) → HasWaited count ports a w x → Looked n (rounds (suc count) ports) a b → notes_of y ≡ notes_of x ++ (length (known b).mine ∷ []) → HasWaited (suc count) ports a w y
+waited-more n count ports a b w x y h looked noted =
+    let made = looked-length n (rounds (suc count) ports) a b looked in
+    let each = rounds-length (suc count) ports in
+    let one : suc count * length ports ≡ (count + 1) * length ports = (let e : suc count ≡ count + 1 = omega arith in ap (λ k. k * length ports) e) in
+    let is : length (known b).mine ≡ length (known a).mine + (count + 1) * length ports = omega (arith, made, each, one) in
+    let longer = ap (λ (zs : List ℕ). length zs) noted in
+    let push = length-append (notes_of x) (length (known b).mine ∷ []) in
+    let before = h.taken in
+    record {
+      taken = omega (arith, longer, push, before);
+      behind = noted ∙ ap (λ zs. zs ++ (length (known b).mine ∷ [])) h.behind
+          ∙ append_assoc (notes_of w) (made_behind (length (known a).mine) (length ports) count) (length (known b).mine ∷ [])
+          ∙ ap (λ k. notes_of w ++ (made_behind (length (known a).mine) (length ports) count ++ (k ∷ []))) is;
+    }
 
 pub ruleset looks = (looked-none, looked-all)

@@ -1,7 +1,7 @@
 -- The order in which enabled ports are looked at.
 -- e and x are enabled ports, xs are enabled ports in the order in which they are looked at, q is a port.
-use Rattle.std.specs.Prelude.{◌≡◌, ℕ, ◌+◌, ◌≤◌, ◌==◌, nat_le, Bool, true, false, ◌||◌, if◌then◌else◌, List, [], ◌∷◌, map, length, Result, Ok, Err}
-use Rattle.std.specs.List.{All, filter}
+use Rattle.std.specs.Prelude.{◌≡◌, ℕ, ◌+◌, ◌≤◌, nat_le, Bool, true, false, ◌||◌, if◌then◌else◌, List, [], ◌∷◌, map, length, Result, Ok, Err}
+use Rattle.std.specs.List.{All}
 use Rattle.chorus_ui.specs.declared.ui.Ui.{Ui}
 use Rattle.chorus_ui.specs.Name.{same_ui}
 use Rattle.chorus_ui.specs.NameKind.{is_port}
@@ -46,25 +46,25 @@ after_enable q priority xs =
     else if nat_le enabled_limit (length xs) then xs
     else placed record { port = q; priority = priority } xs
 
-abbrev pub IsChooser : List Enabled → Type 0
-IsChooser xs = (length xs ≤ enabled_limit) × All (λ (x : Enabled). is_port x.port ≡ true) xs
+-- Where the port has just given a message in turn: it stands behind all others of its priority.
+abbrev pub turned : Ui → List Enabled → List Enabled
+turned q [] = []
+turned q (x ∷ xs) = if same_ui x.port q then placed x xs else x ∷ turned q xs
 
--- The law.
+-- What is so of each chooser.
 
 -- by falling priority
 abbrev pub IsFalling : List Enabled → Type 0
 IsFalling [] = Unit {0}
 IsFalling (x ∷ xs) = All (λ (y : Enabled). y.priority ≤ x.priority) xs × IsFalling xs
 
-abbrev pub of_priority : ℕ → List Enabled → List Enabled
-of_priority p xs = filter (λ (x : Enabled). x.priority == p) xs
+-- no port is enabled twice
+abbrev pub AreApart : List Enabled → Type 0
+AreApart [] = Unit {0}
+AreApart (x ∷ xs) = (is_enabled x.port xs ≡ false) × AreApart xs
 
--- the order in which these are looked at, which were enabled one after another when `order` was the order
-abbrev pub looked_at : List Enabled → List Enabled → List Enabled
-looked_at order [] = order
-looked_at order (x ∷ xs) = looked_at (placed x order) xs
-
--- by falling priority, and of each priority in the order of enabling
-abbrev pub EnablingOrders : Type 0
-EnablingOrders =
-    (xs : List Enabled) → IsFalling (looked_at [] xs) × ((p : ℕ) → of_priority p (looked_at [] xs) ≡ of_priority p xs)
+pub record IsChooser (xs : List Enabled) : Type 0 where
+  pub few : length xs ≤ enabled_limit
+  pub ports : All (λ (x : Enabled). is_port x.port ≡ true) xs
+  pub apart : AreApart xs
+  pub falling : IsFalling xs

@@ -1,11 +1,14 @@
 //! A bell: one caller waits, and others ring.
-ghost use Rattle.std.specs.Prelude.{◌≡◌, ◌+◌, IfOk};
-ghost use Rattle.chorus_choose.specs.Bells.{ringer_bell, waiter_bell, waits_of};
+ghost use Rattle.std.specs.Prelude.{◌≡◌, ◌+◌, ◌++◌, ◌∷◌, [], length, IfOk};
+ghost use Rattle.chorus_nucleus.specs.Passes.{known};
+ghost use Rattle.chorus_choose.specs.Bells.{notes_of, ringer_bell, waiter_bell, waits_of};
 
 use crate::bell_ends::{Ringer, Waiter};
-use crate::rule::{BellCounts, Rings, Tokens, Waits};
+use crate::rule::{BellCounts, Made, Rings, Tokens, Waits};
+use chorus_nucleus::Pass as Caller;
 use crossbeam_utils::sync::parker::{Pass, RuledParker};
 use std::alloc::{AllocError, Global};
+use std::marker::Brand;
 use std::sync::Wait;
 
 /// A bell that nobody has rung. The only error is want of memory.
@@ -34,6 +37,21 @@ impl Waiter {
         ensures bell { waiter_bell self.new ≡ waiter_bell self.old }
         ensures taken { waits_of self.new ≡ waits_of self.old + 1 }
     {
-        self.parker.park_as::<Waits, R>(rt, &mut self.pass);
+        self.parker.park_as::<Waits<Brand>, R>(rt, &mut self.pass);
+    }
+
+    /// The same, and how much the pass has made before is noted.
+    pub(crate) fn wait_behind<R: Wait>(&mut self, rt: &R, pass: &Caller)
+        ensures bell { waiter_bell self.new ≡ waiter_bell self.old }
+        ensures noted { notes_of self.new ≡ notes_of self.old ++ (length (known pass.now).mine ∷ []) }
+    {
+        self.wait_noting::<Brand, R>(rt, pass);
+    }
+
+    fn wait_noting<X: Made, R: Wait>(&mut self, rt: &R, _pass: &Caller)
+        ensures bell { waiter_bell self.new ≡ waiter_bell self.old }
+        ensures noted { notes_of self.new ≡ notes_of self.old ++ (X.made ∷ []) }
+    {
+        self.parker.park_as::<Waits<X>, R>(rt, &mut self.pass);
     }
 }

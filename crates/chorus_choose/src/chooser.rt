@@ -2,7 +2,7 @@
 ghost use Rattle.std.specs.Prelude.{◌≡◌, ◌≤◌, ◌↔◌, [], ◌∷◌, ◌++◌, true, length, take, drop, IfOk, IsOk};
 ghost use Rattle.chorus_ui.specs.NameKind.{is_port};
 ghost use Rattle.chorus_choose.specs.declared.chooser.Enabled.{Enabled};
-ghost use Rattle.chorus_choose.specs.Looking.{placed, without, is_enabled, index_of, refuses, after_enable};
+ghost use Rattle.chorus_choose.specs.Looking.{placed, without, is_enabled, index_of, refuses, after_enable, turned, IsChooser};
 
 use crate::fault::{EnableFault, NotEnabled};
 use chorus_ui::Ui;
@@ -20,7 +20,7 @@ pub struct Enabled {
 }
 
 /// The enabled ports, at most 32, in the order in which they are looked at: greater priority first, and equal
-/// priorities in the order of enabling. The order is this project's own.
+/// priorities in the order of enabling, but that a port which gives in turn goes behind the others. The order is this project's own.
 #[derive(Drop)]
 pub struct Chooser {
     pub(crate) enabled: Vec<Enabled>,
@@ -109,5 +109,30 @@ impl Chooser {
         }
         let _disabled = self.enabled.remove(at);
         Ok(())
+    }
+
+    /// The enabled ports in the order in which they are looked at: at most 32, none twice, by falling priority. Takes no memory.
+    pub fn enabled(&self) -> &[Enabled]
+        ensures value { result.now ≡ self.now }
+        ensures order { IsChooser self.now }
+    {
+        self.enabled.as_slice()
+    }
+
+    /// The port goes behind all others of its priority. Takes no memory.
+    #[tactic(auto, using(crate::proofs::Order::enabled_at))]
+    pub(crate) fn turn(&mut self, port: Ui)
+        ensures { self.new ≡ turned port self.old }
+    {
+        let at = index_of(self.enabled.as_slice(), port);
+        if at >= self.enabled.len() {
+            return;
+        }
+        let given = self.enabled.remove(at);
+        let behind = place_of(&self.enabled.as_slice()[at..], given.priority);
+        match self.enabled.insert(at + behind, given) {
+            Ok(()) => {}
+            Err(_) => unreachable!(),
+        }
     }
 }

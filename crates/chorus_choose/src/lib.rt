@@ -2,10 +2,11 @@
 //!
 //! A [`Chooser`] has the enabled ports in the order in which they are looked at. [`Chooser::receive`] looks at each
 //! once, by one take of the nucleus, and takes from the first that has a message for the caller.
-//! [`Chooser::wait_receive`] waits for a ring of a [`bell()`] where there was none, and looks again. The user rests on
-//! this: the entries that a receive appended are told by its answer alone.
+//! [`Chooser::receive_in_turn`] besides puts the port that gave behind the others of its priority, so that none starves.
+//! [`Chooser::wait_receive`] waits for a ring of a [`bell()`] where there was none, and looks again: one look for each wait. The
+//! user rests on this: the entries that a receive appended are told by its answer alone.
 //!
-//! Begin with `specs/Looking.antt` (the order), then `specs/Rounds.antt` (what a receive appends) and
+//! Begin with `specs/Looking.antt` and `specs/Changes.antt` (the order), then `specs/Rounds.antt` (what a receive appends) and
 //! `specs/Bells.antt`.
 #![tactic(auto)]
 
@@ -23,5 +24,5 @@ pub use bell_ends::{Ringer, Waiter};
 pub use bells::bell;
 pub use chooser::{Chooser, ENABLED_LIMIT, Enabled};
 pub use fault::{EnableFault, NotEnabled};
-pub use laws::looking_order;
+pub use laws::{Change, looking_order, no_port_starves};
 pub use received::{Received, Waited};

@@ -1,8 +1,9 @@
-//! A receive that does not wait.
+//! Receives that do not wait.
 ghost use Rattle.chorus_nucleus.specs.Passes.{IsPassOf};
 ghost use Rattle.chorus_choose.specs.Looking.{ports_of};
 ghost use Rattle.chorus_choose.specs.Rounds.{IsReceive};
-ghost use Rattle.std.specs.Prelude.{[]};
+ghost use Rattle.chorus_choose.specs.InTurn.{after_receive};
+ghost use Rattle.std.specs.Prelude.{◌≡◌, []};
 
 use crate::chooser::Chooser;
 use crate::received::Received;
@@ -39,5 +40,27 @@ impl Chooser {
         Ok(Received::Empty {
             looked: looked as u16,
         })
+    }
+
+    /// Receives as [`Chooser::receive`] does, and then the port that gave goes behind the others of its priority. So the next
+    /// receive goes on behind it among them, and none of them starves: see [`crate::no_port_starves`]. Where it is `Empty`,
+    /// and at a fault, the order stays.
+    pub fn receive_in_turn(
+        &mut self,
+        nucleus: &Nucleus,
+        pass: &mut Pass,
+    ) -> Result<Received, CallFault>
+        requires { IsPassOf nucleus.now pass.old }
+        ensures received { IsReceive nucleus.now [] (ports_of self.old) result pass.old pass.new }
+        ensures turned { self.new ≡ after_receive result self.old }
+    {
+        let received = match self.receive(nucleus, pass) {
+            Ok(received) => received,
+            Err(fault) => return Err(fault),
+        };
+        if let Received::Taken { port, .. } = &received {
+            self.turn(*port);
+        }
+        Ok(received)
     }
 }

@@ -1,11 +1,11 @@
 //! A receive that waits.
-ghost use Rattle.std.specs.Prelude.{◌≡◌, ◌+◌, ℕ, false, [], IfErr};
+ghost use Rattle.std.specs.Prelude.{◌≡◌, ℕ, false, [], IfErr};
 ghost use Rattle.chorus_nucleus.specs.Passes.{IsPassOf};
 ghost use Rattle.chorus_nucleus.specs.Taking.{is_busy};
 ghost use Rattle.chorus_choose.specs.Looking.{ports_of};
 ghost use Rattle.chorus_choose.specs.Rounds.{IsReceive};
-ghost use Rattle.chorus_choose.specs.Waits.{WaitsAndReceives};
-ghost use Rattle.chorus_choose.specs.Bells.{waits_of, waiter_bell};
+ghost use Rattle.chorus_choose.specs.Waits.{HasWaited, WaitsAndReceives};
+ghost use Rattle.chorus_choose.specs.Bells.{waiter_bell};
 
 use crate::bell_ends::Waiter;
 use crate::chooser::Chooser;
@@ -51,8 +51,9 @@ impl Chooser {
     /// Receives, and where there was no message waits for a ring and receives again. While another pass has a place it
     /// tries the same take again, so it never answers `Busy` and begins no round anew. Where no port is enabled it never returns.
     ///
-    /// `parks` counts the waits, each of which took one token; at 4,294,967,295 it goes on without counting. At a fault
-    /// the tokens that it took are spent and the entries of its rounds stand.
+    /// Between two waits lies exactly one round, in which each port was looked at once and in vain, and so before the first: it
+    /// never looks again without a ring. `parks` counts the waits, each of which took one token; at 4,294,967,295 it goes on without
+    /// counting. At a fault the tokens that it took are spent and the entries of its rounds stand.
     pub fn wait_receive<R: Wait>(
         &self,
         rt: &R,
@@ -62,7 +63,7 @@ impl Chooser {
     ) -> Result<Waited, CallFault>
         requires { IsPassOf nucleus.now pass.old }
         ensures bell { waiter_bell waiter.new ≡ waiter_bell waiter.old }
-        ensures rounds { (n : ℕ) × (waits_of waiter.new ≡ waits_of waiter.old + n)
+        ensures rounds { (n : ℕ) × HasWaited n (ports_of self.now) pass.old waiter.old waiter.new
             × WaitsAndReceives nucleus.now n (ports_of self.now) result pass.old pass.new }
         ensures free { IfErr result (λ f. is_busy f ≡ false) }
     {
@@ -89,7 +90,7 @@ impl Chooser {
                 }
                 Received::Empty { looked: _ } => {}
             }
-            waiter.wait(rt);
+            waiter.wait_behind(rt, pass);
             parks = parks.saturating_add(1);
         }
         unreachable!()

@@ -3,9 +3,9 @@
 -- and the seat of the pass that takes there. A past has its newest entry first.
 use mathlib.Core.Logic.{dite}
 use native.Mathlib.Decide.{ℕ_discrete}
-use Rattle.std.proofs.Common.{ℕ, zero, suc, ◌≡◌, ◌≢◌, ◌+◌, ◌-◌, ◌<◌, ◌≤◌, ◌==◌, inl, inr, Bool, true, false, cond, nat_le, List, [], ◌∷◌, ◌++◌, append-nil, length, map, reverse, Option, Some, None, option_map, slice_get, refl, sym, ◌∙◌, ap, subst, arith}
+use Rattle.std.proofs.Common.{ℕ, ◌≡◌, ◌≢◌, ◌+◌, ◌-◌, ◌<◌, ◌≤◌, ◌==◌, inl, inr, Bool, true, false, cond, nat_le, List, [], ◌∷◌, ◌++◌, append-nil, length, map, reverse, Option, Some, None, option_map, slice_get, refl, sym, ◌∙◌, ap, subst, arith}
 use Rattle.std.specs.List.{All, filter}
-use Rattle.std.proofs.lemmas.Bool.{eqb-true, eq-eqb, and_parts, false≢true, leb-true, le-leb, and_from, cases_lt}
+use Rattle.std.proofs.lemmas.Bool.{eqb-true, eq-eqb, and_parts, false≢true, le-leb, and_from, cases_lt}
 use Rattle.std.proofs.lemmas.List.{reverse-reverse}
 use Rattle.std.proofs.lemmas.List.Elements.{All-nil, All-cons, All-head, All-tail, All-weaker, All-filter, filter-append, filter_passes}
 use Rattle.chorus_ui.specs.declared.ui.Ui.{Ui}
@@ -14,10 +14,7 @@ use Rattle.chorus_ui.specs.Layout.{IsLayout, has_place, places}
 use Rattle.chorus_entry.specs.declared.entry.Entry.{Entry}
 use Rattle.chorus_entry.specs.Order.{IsInOrder, IsRising, comes_before, is_at}
 use Rattle.chorus_calls.specs.Callers.{Seated}
-use Rattle.chorus_merge.specs.Merge.{merged}
 use Rattle.chorus_merge.proofs.Order.{comes_before-true}
-use Rattle.chorus_world.specs.Order.{sort}
-use Rattle.chorus_world.specs.SortingLaws.{SortsViews}
 use Rattle.chorus_world.specs.Views.{at, by, is_by}
 use Rattle.chorus_world.specs.Places.{last_clock}
 use Rattle.chorus_world.specs.Runs.{is_run}
@@ -27,34 +24,28 @@ use Rattle.chorus_world.proofs.Ports.Paths.{timely-place}
 use Rattle.chorus_world.proofs.Ports.Sites.{place-inside}
 use Rattle.chorus_world.proofs.Sorted.Exchange.{sorts_in_order}
 use Rattle.chorus_world.proofs.Sorted.Holders.{run_is_legal}
-use Rattle.law_network.specs.History.{history}
-use Rattle.law_network.specs.Left.{merged_past}
-use Rattle.law_network.specs.Network.{Event, NetState, numbers, schedule}
-use Rattle.law_network.specs.Stands.{Stands, actor_of}
-use Rattle.law_network.proofs.Merge.Journals.{journals-are, merge-is, views}
-use Rattle.law_network.proofs.Merge.Parts.{All-reverse, in-order-reverse, filter-reverse, part}
-use Rattle.law_network.proofs.Places.Layouts.{schedule-keeps}
-use Rattle.law_network.proofs.Promises.Promised.{stands-at}
+use Rattle.law_network.specs.Network.{Event, NetState}
+use Rattle.law_network.specs.Stands.{Stands}
+use Rattle.law_network.proofs.Merge.Parts.{All-reverse, in-order-reverse}
 use Rattle.law_history.specs.Histories.{Follows}
 use Rattle.law_history.specs.PlaceTurns.{machine}
-use Rattle.law_history.specs.Journals.{PlaceTurn, Comer, events, new_from}
+use Rattle.law_history.specs.Journals.{PlaceTurn, Comer, new_from}
 use Rattle.law_history.specs.Runs.{KeepsPromises, MergesAsARun, actor_among, commands_given, merged_at}
-use Rattle.law_history.proofs.Merging.{journals-keep-promises, journals-merge-as-a-run}
+use Rattle.law_history.proofs.Merging.{journals-merge-as-a-run}
 use Rattle.law_closing.specs.Places.{PlaceNote}
 use Rattle.law_closing.specs.Remarks.{turns_in}
-use Rattle.law_closing.specs.Closing.{IsPlace}
 use Rattle.chorus_turn.specs.declared.knowledge.Note.{Note}
 use Rattle.chorus_turn.specs.declared.knowledge.Placed.{Placed}
-use Rattle.chorus_turn.specs.declared.knowledge.Remarked.{Remarked}
 use Rattle.chorus_turn.specs.declared.knowledge.Knowledge.{Knowledge}
-use Rattle.chorus_turn.specs.Journals.{at_place, by_seat, entries_of}
-use Rattle.chorus_turn.specs.Knowing.{Shows}
+use Rattle.chorus_turn.specs.Journals.{at_place, entries_of}
 use Rattle.chorus_net.specs.declared.closed.Closed.{Closed}
-use Rattle.chorus_net.specs.Closing.{IsLeft, closed_journals, past_of}
+use Rattle.chorus_net.specs.Closing.{past_of}
 use Rattle.chorus_nucleus.specs.Closing.{ClosesAs}
 use Rattle.law_filled.specs.Filled.{AllAreSettled}
 use Rattle.law_emptied.specs.Crewed.{AllFirst, AllTake, AreWithin, IsOfTake, Sending, place_on, port_on, script}
 use Rattle.law_crews.specs.Crewed.{AreTakers, AreTheirs, CameSo, ClosedMergesAsCrewed, HasTakers, MergesAsCrewed, entries_made}
+use Rattle.law_crews.proofs.Lists.{In}
+use Rattle.law_crews.proofs.Passes as passes
 use Rattle.law_crews.proofs.Silent.{all-from, all-two, beyond, no-links}
 
 -- Entries by clock.
@@ -133,14 +124,6 @@ by-newer : (s : ℕ) (past newer older : List Entry) → s ≢ 0 → past ≡ ne
 by-newer s past newer older some is f =
     ap (by s) is ∙ filter-append (is_by s) newer older ∙ ap (λ zs. by s newer ++ zs) (by-none s older some f) ∙ append-nil (by s newer)
 
-by-entries : (q : ℕ) (log : List (Remarked PlaceNote)) → by q (entries_of log) ≡ entries_of (by_seat q log)
-by-entries q [] = refl
-by-entries q (r ∷ rs) = go (r.entry.seat == q) (by-entries q rs)
-  where
-    go : (b : Bool) → by q (entries_of rs) ≡ entries_of (by_seat q rs) → cond b (r.entry ∷ by q (entries_of rs)) (by q (entries_of rs)) ≡ entries_of (cond b (r ∷ by_seat q rs) (by_seat q rs))
-    go true h = ap (λ es. r.entry ∷ es) h
-    go false h = h
-
 -- all that was made at one place
 entries-there : (p : ℕ) (mine : List (Placed PlaceNote)) → All (λ (m : Placed PlaceNote). m.place ≡ p) mine → entries_of (at_place p mine) ≡ entries_made mine
 entries-there p [] a = refl
@@ -199,11 +182,6 @@ map-some : {X Y : Type 0} (f : X → Y) (o : Option X) (y : Y) → option_map f 
 map-some f None y h = absurd (cc)
 map-some f (Some x) y h = (x, refl)
 
-numbers-get : {X : Type 0} (f : ℕ → X) (m a i : ℕ) → i < m → slice_get (map f (numbers m a)) i ≡ Some (f (a + i))
-numbers-get f zero a i lt = absurd (omega (arith, lt))
-numbers-get f (suc m) a zero lt = ap (λ z. Some (f z)) (let e : a ≡ a + 0 = omega arith in e)
-numbers-get f (suc m) a (suc i) lt = numbers-get f m (a + 1) i (omega (arith, lt)) ∙ ap (λ z. Some (f z)) (let e : a + 1 + i ≡ a + suc i = omega arith in e)
-
 first-made : (mine : List (Placed PlaceNote)) (clock : ℕ) → ((m : Placed PlaceNote) (rest : List (Placed PlaceNote)) → mine ≡ m ∷ rest → clock < m.remarked.entry.clock) → (es : List Entry) → IsRising es → es ≡ reverse (entries_made mine) → All (λ (f : Entry). clock < f.clock) es
 first-made [] clock h es rising is = subst (All (λ (f : Entry). clock < f.clock)) (sym is) (All-nil (λ (f : Entry). clock < f.clock))
 first-made (m ∷ mine) clock h es rising is = later-than clock es m.remarked.entry (entries_made mine) rising is (h m mine refl)
@@ -211,49 +189,37 @@ first-made (m ∷ mine) clock h es rising is = later-than clock es m.remarked.en
 module _ (l : Layout) (v b : Knowledge PlaceNote) (comers : List Comer) (c : Closed) (clock n : ℕ) (later : List Sending) (who : Ui) (shape : IsLayout l) (k : ClosesAs l v comers c) (h : HasTakers l v b clock n later) (came : CameSo comers who (length v.notes))
     (made : v.made ≡ length v.notes + 1) (sites : length v.notes ≤ l.sites) (within : AreWithin (length v.notes) later) where
   abbrev kept : KeepsPromises l comers k.of_places k.of_seats k.closing
-  kept = journals-keep-promises l comers k.of_places k.of_seats k.closing shape k.histories
+  kept = passes.kept l v comers c shape k
 
   abbrev es : List Event
-  es = events comers kept.turns
+  es = passes.es l v comers c shape k
 
   abbrev net : NetState
-  net = schedule l es
+  net = passes.net l v comers c shape k
 
   abbrev H : List Entry
-  H = history l es
+  H = passes.H l v comers c shape k
 
   stands : Stands net H
-  stands = stands-at l es shape kept.scheduled.may
-
-  left : IsLeft net c
-  left = k.is_left kept.turns kept.scheduled
-
-  past-net : past_of c ≡ merged_past net
-  past-net = ap (λ js. reverse (merged js)) left.journals
-
-  past-sort : past_of c ≡ sort H
-  past-sort = past-net ∙ merge-is net H stands
-
-  seen-by : SortsViews H
-  seen-by = views net H stands
+  stands = passes.stands l v comers c shape k
 
   rising : IsRising (past_of c)
-  rising = subst IsRising (sym past-sort) (sorts_in_order H stands.causal)
+  rising = subst IsRising (sym (passes.past-sort l v comers c shape k)) (sorts_in_order H stands.causal)
 
   by-past : (s : ℕ) → by s (past_of c) ≡ by s H
-  by-past s = ap (by s) past-sort ∙ seen-by.seats s
+  by-past s = passes.by-past l v comers c shape k s
 
   merges : MergesAsARun l comers k.of_seats k.closing
   merges = journals-merge-as-a-run l comers k.of_places k.of_seats k.closing shape k.histories
 
   past-merged : past_of c ≡ merged_at l k.closing
-  past-merged = past-net ∙ kept.merge
+  past-merged = passes.past-net l v comers c shape k ∙ kept.merge
 
   run : is_run l (actor_among comers) (past_of c) ≡ true
   run = ap (is_run l (actor_among comers)) past-merged ∙ merges.run
 
-  legal : is_legal l H ≡ true
-  legal = run_is_legal l (actor_of net) H (subst (λ z. is_run z (actor_of net) H ≡ true) (schedule-keeps l es).layout stands.run)
+  legal : is_legal l (past_of c) ≡ true
+  legal = run_is_legal l (actor_among comers) (past_of c) run
 
   count : length comers ≡ length v.notes + 1
   count = k.count ∙ made
@@ -279,47 +245,23 @@ module _ (l : Layout) (v b : Knowledge PlaceNote) (comers : List Comer) (c : Clo
 
   -- The others.
 
-  journal-at : (p : ℕ) → IsPlace (places l) p → slice_get (closed_journals c) (p - 1) ≡ Some (part H p)
-  journal-at p at-it =
-      ap (λ js. slice_get js (p - 1)) (left.journals ∙ journals-are net H stands)
-      ∙ ap (λ (z : Layout). slice_get (map (part H) (numbers (places z) 1)) (p - 1)) (schedule-keeps l es).layout
-      ∙ numbers-get (part H) (places l) 1 (p - 1) (omega (arith, at-it.0, at-it.1))
-      ∙ ap (λ z. Some (part H z)) (let e : 1 + (p - 1) ≡ p = omega (arith, at-it.0) in e)
-
-  is-place : (p : ℕ) → has_place l p ≡ true → IsPlace (places l) p
-  is-place p has = (let two = and_parts (nat_le 1 p) (nat_le p (places l)) has in (leb-true 1 p two.0, leb-true p (places l) two.1))
-
-  -- of a note: its entries at a place
-  at-one : (m : Note PlaceNote) (p : ℕ) → has_place l p ≡ true → by_seat m.seat (k.log p) ≡ at_place p m.mine → by m.seat (at p H) ≡ reverse (entries_of (at_place p m.mine))
-  at-one m p has shows =
-      let is = is-place p has in
-      let e : (p - 1) + 1 ≡ p = omega (arith, is.0) in
-      let journal : part H p ≡ entries_of (k.log p) = k.entries (p - 1) (part H p) (journal-at p is) ∙ ap (λ z. entries_of (k.log z)) e in
-      let turned : reverse (by m.seat (at p H)) ≡ entries_of (at_place p m.mine) = sym (filter-reverse (is_by m.seat) (at p H)) ∙ ap (by m.seat) journal ∙ by-entries m.seat (k.log p) ∙ ap entries_of shows in
-      sym (reverse-reverse (by m.seat (at p H))) ∙ ap reverse turned
-
-  shown : (p : ℕ) → has_place l p ≡ true → All (λ (m : Note PlaceNote). by_seat m.seat (k.log p) ≡ at_place p m.mine) v.notes
-  shown p has =
-      let is = is-place p has in
-      let e : (p - 1) + 1 ≡ p = omega (arith, is.0) in
-      (subst (λ z. Shows z v (k.log z)) e (k.tells.shows (p - 1) (omega (arith, is.0, is.1)))).noted
-
   site-has : (s : ℕ) → 1 ≤ s → s ≤ length v.notes → has_place l (place_on l s) ≡ true
   site-has s low high = place-inside l s (port_on s) shape (and_from (nat_le 1 s) (nat_le s l.sites) (le-leb 1 s low) (le-leb s l.sites (omega (arith, high, sites))))
 
   -- all entries of the seat of a note
-  all-of : (s : ℕ) (m : Note PlaceNote) → m.seat ≡ s → has_place l (place_on l s) ≡ true → All (λ (z : Placed PlaceNote). z.place ≡ place_on l s) m.mine → ((p : ℕ) → has_place l p ≡ true → by_seat m.seat (k.log p) ≡ at_place p m.mine)
-      → (by s H ≡ reverse (entries_made m.mine)) × (by s H ≡ by s (at (place_on l s) H))
-  all-of s m is has placed shows =
+  all-of : (s : ℕ) (m : Note PlaceNote) → In m v.notes → m.seat ≡ s → has_place l (place_on l s) ≡ true → All (λ (z : Placed PlaceNote). z.place ≡ place_on l s) m.mine
+      → (by s (past_of c) ≡ reverse (entries_made m.mine)) × (by s (past_of c) ≡ by s (at (place_on l s) (past_of c)))
+  all-of s m among is has placed =
       let p = place_on l s in
-      let one : by m.seat H ≡ by m.seat (at p H) = mine-at l m.seat p H legal (λ r there apart. at-one m r there (shows r there) ∙ ap reverse (entries-away p r m.mine apart placed)) in
-      subst (λ z. (by z H ≡ reverse (entries_made m.mine)) × (by z H ≡ by z (at p H))) is
-      (one ∙ at-one m p has (shows p has) ∙ ap reverse (entries-there p m.mine placed), one)
+      let there = λ (r : ℕ) (place : has_place l r ≡ true). passes.at-one l v comers c shape k m r (inr among) place in
+      let one : by m.seat (past_of c) ≡ by m.seat (at p (past_of c)) = mine-at l m.seat p (past_of c) legal (λ r place apart. there r place ∙ ap reverse (entries-away p r m.mine apart placed)) in
+      subst (λ z. (by z (past_of c) ≡ reverse (entries_made m.mine)) × (by z (past_of c) ≡ by z (at p (past_of c)))) is
+      (one ∙ there p has ∙ ap reverse (entries-there p m.mine placed), one)
 
-  at-its-place : (s p : ℕ) → by s H ≡ by s (at p H) → All (λ (e : Entry). e.place ≡ p) (by s H)
-  at-its-place s p is =
+  at-its-place : (s p : ℕ) (past : List Entry) → by s past ≡ by s (at p past) → All (λ (e : Entry). e.place ≡ p) (by s past)
+  at-its-place s p past is =
       subst (All (λ (e : Entry). e.place ≡ p)) (sym is)
-      (All-filter (is_by s) (λ (e : Entry). e.place ≡ p) (at p H) (All-weaker (λ (e : Entry). is_at p e ≡ true) (λ (e : Entry). e.place ≡ p) (λ e t. eqb-true e.place p t) (at p H) (filter_passes (is_at p) H)))
+      (All-filter (is_by s) (λ (e : Entry). e.place ≡ p) (at p past) (All-weaker (λ (e : Entry). is_at p e ≡ true) (λ (e : Entry). e.place ≡ p) (λ e t. eqb-true e.place p t) (at p past) (filter_passes (is_at p) past)))
 
   -- what is so of the entries of each seat but 0
   record IsOfSeat (s : ℕ) (past : List Entry) : Type 0 where
@@ -329,22 +271,21 @@ module _ (l : Layout) (v b : Knowledge PlaceNote) (comers : List Comer) (c : Clo
   of-none : (s : ℕ) (past : List Entry) → past ≡ [] → IsOfSeat s past
   of-none s past none = subst (IsOfSeat s) (sym none) record { later_all = All-nil (λ (e : Entry). clock < e.clock); takes_all = All-nil (λ (e : Entry). IsOfTake (port_on s) e.act) }
 
-  of-notes : (s : ℕ) (notes : List (Note PlaceNote)) → 1 ≤ s → s + length notes ≤ length v.notes + 1 → AreTakers l clock s notes → ((p : ℕ) → has_place l p ≡ true → All (λ (m : Note PlaceNote). by_seat m.seat (k.log p) ≡ at_place p m.mine) notes)
+  of-notes : (s : ℕ) (notes : List (Note PlaceNote)) → 1 ≤ s → s + length notes ≤ length v.notes + 1 → AreTakers l clock s notes → ((m : Note PlaceNote) → In m notes → In m v.notes)
       → AreTheirs l s notes (past_of c) × ((j : ℕ) → s ≤ j → j < s + length notes → IsOfSeat j (by j H))
-  of-notes s [] low high a shows = (tt, λ j le lt. absurd (omega (arith, le, lt)))
-  of-notes s (m ∷ notes) low high a shows =
-      let N = λ (p : ℕ) (z : Note PlaceNote). by_seat z.seat (k.log p) ≡ at_place p z.mine in
-      let rest = of-notes (s + 1) notes (omega arith) (omega (arith, high)) a.3 (λ p has. All-tail (N p) m notes (shows p has)) in
-      let both = all-of s m a.0 (site-has s low (omega (arith, high))) a.1.places (λ p has. All-head (N p) m notes (shows p has)) in
-      let mine : by s H ≡ reverse (entries_made m.mine) = both.0 in
+  of-notes s [] low high a among = (tt, λ j le lt. absurd (omega (arith, le, lt)))
+  of-notes s (m ∷ notes) low high a among =
+      let rest = of-notes (s + 1) notes (omega arith) (omega (arith, high)) a.3 (λ z there. among z (inr there)) in
+      let both = all-of s m (among m (inl refl)) a.0 (site-has s low (omega (arith, high))) a.1.places in
+      let mine : by s H ≡ reverse (entries_made m.mine) = sym (by-past s) ∙ both.0 in
       let here : IsOfSeat s (by s H) = record {
         later_all = first-made m.mine clock a.1.first (by s H) (stands.causal.seats s) mine;
         takes_all = subst (All (λ (e : Entry). IsOfTake (port_on s) e.act)) (sym mine) (All-reverse (λ (e : Entry). IsOfTake (port_on s) e.act) (entries_made m.mine) a.2);
       } in
-      ((by-past s ∙ mine, subst (All (λ (e : Entry). e.place ≡ place_on l s)) (sym (by-past s)) (at-its-place s (place_on l s) both.1), rest.0), λ j le lt. dite (ℕ_discrete j s) (λ same. subst (λ z. IsOfSeat z (by z H)) (sym same) here) (λ apart. rest.1 j (omega (arith, le, apart)) (omega (arith, lt))))
+      ((both.0, at-its-place s (place_on l s) (past_of c) both.1, rest.0), λ j le lt. dite (ℕ_discrete j s) (λ same. subst (λ z. IsOfSeat z (by z H)) (sym same) here) (λ apart. rest.1 j (omega (arith, le, apart)) (omega (arith, lt))))
 
   noted : AreTheirs l 1 v.notes (past_of c) × ((j : ℕ) → 1 ≤ j → j < 1 + length v.notes → IsOfSeat j (by j H))
-  noted = of-notes 1 v.notes (omega arith) (omega arith) h.takers shown
+  noted = of-notes 1 v.notes (omega arith) (omega arith) h.takers (λ m there. there)
 
   of-seat : (j : ℕ) → j ≢ 0 → IsOfSeat j (by j H)
   of-seat j some = elim (cases_lt j (1 + length v.notes)) [

@@ -1,9 +1,13 @@
 pub mod Silent
 pub mod Crewed
 pub mod Positions
+pub mod Seats
 pub mod Acts
 pub mod Counted
 pub mod Looks
 pub mod Lists
 pub mod HandedOut
+pub mod Passes
+pub mod InOrder
 pub mod Taken
+pub mod Examples

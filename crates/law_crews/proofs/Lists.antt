@@ -51,6 +51,10 @@ module _ {X : Type 0} where
   all-in P x (y ∷ xs) h (inl is) = subst P is (All-head P y xs h)
   all-in P x (y ∷ xs) h (inr a) = all-in P x xs (All-tail P y xs h) a
 
+  pub all-at : (P : X → Type 0) (newer older : List X) (x : X) → All P (newer ++ x ∷ older) → P x
+  all-at P [] older x h = All-head P x older h
+  all-at P (y ∷ newer) older x h = all-at P newer older x (All-tail P y (newer ++ x ∷ older) h)
+
   pub in-reverse : (x : X) (xs : List X) → In x xs → In x (reverse xs)
   in-reverse x [] a = absurd a
   in-reverse x (y ∷ xs) (inl is) = subst (λ zs. In x zs) (sym (reverse-append (y ∷ []) xs)) (in-back x (reverse xs) (y ∷ []) (inl is))

@@ -108,7 +108,7 @@ count-both q (e ∷ xs) ys =
 one-take : (e : Entry) (q : Ui) (n : ℕ) (x : MsgId) → e.act ≡ Act.Take q n x → weight (is_on (Some q) e) e.act ≡ 1
 one-take e q n x is = ap (λ a. weight (are_same same_ui (Some q) (held_port_of a)) a) is ∙ ap (λ b. weight b (Act.Take q n x)) (same_ui-self q)
 
-next-taken : (l : Layout) (past : List Entry) (e : Entry) (q : Ui) (n : ℕ) (x : MsgId) → IsLayout l → is_legal l (e ∷ past) ≡ true → e.act ≡ Act.Take q n x → n ≡ length (positions (on q past))
+pub next-taken : (l : Layout) (past : List Entry) (e : Entry) (q : Ui) (n : ℕ) (x : MsgId) → IsLayout l → is_legal l (e ∷ past) ≡ true → e.act ≡ Act.Take q n x → n ≡ length (positions (on q past))
 next-taken l past e q n x shape h is =
     let two = legal_parts l e past h in
     let takes = subst (λ a. act_may l (views past e.place e.seat a) e.place e.seat a ≡ true) is two.0 in

@@ -2,7 +2,7 @@
 
 ghost use Rattle.chorus_nucleus.specs.Passes.{IsPassOf};
 
-use crate::ground::{actor_of, close, insist, port_of, send, start_two_ports};
+use crate::ground::{actor_of, close, insist, make, port_of, send, start_two_ports};
 use chorus_choose::{Chooser, EnableFault, NotEnabled, Received};
 use chorus_entry::{Act, Command};
 use chorus_net::Closed;
@@ -14,10 +14,16 @@ use std::sync::Wait;
 /// What a receive gives.
 #[derive(Clone, Copy, PartialEq)]
 enum Given {
-    /// This message of the port with this number of site 1, at position 0, and no reply.
-    Message { number: u64, body: u8 },
+    /// This message of the port with this number of site 1, at this position, and no reply.
+    Message {
+        number: u64,
+        position: u64,
+        body: u8,
+    },
     /// Nothing, of so many ports that were looked at.
-    Nothing { looked: u16 },
+    Nothing {
+        looked: u16,
+    },
     /// Anything else.
     Other,
 }
@@ -27,12 +33,13 @@ fn given_of(received: &Received) -> Given {
     match received {
         Received::Taken {
             port,
-            pos: 0,
+            pos,
             message,
             settled: None,
         } => match message.body.bytes() {
             [body] => Given::Message {
                 number: port.number(),
+                position: *pos,
                 body: *body,
             },
             _ => Given::Other,
@@ -121,10 +128,12 @@ fn receive_by_priority(rt: HostRuntime) {
     let wanted = [
         Given::Message {
             number: 2,
+            position: 0,
             body: b'b',
         },
         Given::Message {
             number: 1,
+            position: 0,
             body: b'a',
         },
         Given::Nothing { looked: 2 },
@@ -156,6 +165,7 @@ fn equal_priorities_and_ports_of_others(rt: HostRuntime) {
     let chooser = chooser_of(&rt, rt.alloc(), &[(2, 2), (1, 2)]);
     let first = Given::Message {
         number: 2,
+        position: 0,
         body: b'b',
     };
     assert_gives(&rt, &nucleus, &mut pass, &chooser, first);
@@ -169,4 +179,112 @@ fn equal_priorities_and_ports_of_others(rt: HostRuntime) {
             matches!(act_at(&rt, &closed, index), Act::NotHere { port: found } if *found == port)
         );
     }
+}
+
+/// A message that a receive in turn gives: the number of its port of site 1, its position and its body.
+type Turn = (u64, u64, u8);
+
+/// Sends each body to the port of site 1 with its number.
+fn send_all<R: Wait + Abort>(
+    rt: &R,
+    alloc: Global,
+    nucleus: &Nucleus,
+    pass: &mut Pass,
+    bodies: &[(u64, u8)],
+)
+    requires { IsPassOf nucleus.now pass.old }
+    ensures { IsPassOf nucleus.now pass.new }
+{
+    for (number, body) in bodies {
+        let port = port_of(rt, 1, *number);
+        send(rt, alloc, nucleus, pass, port, &[*body]);
+    }
+}
+
+/// A nucleus of one site with four ports, to which the opening pass sent these bodies.
+fn start_four_ports<R: Wait + Abort>(rt: &R, alloc: Global, bodies: &[(u64, u8)]) -> (Nucleus, Pass)
+    ensures { IsPassOf result.0 result.1 }
+{
+    let (nucleus, mut pass) = start_two_ports(rt, alloc);
+    let actor = actor_of(rt, 1, 1);
+    make(rt, &nucleus, &mut pass, actor, 64);
+    make(rt, &nucleus, &mut pass, actor, 64);
+    send_all(rt, alloc, &nucleus, &mut pass, bodies);
+    (nucleus, pass)
+}
+
+/// Receives in turn, and asserts what is given.
+fn assert_turn(
+    rt: &impl Abort,
+    nucleus: &Nucleus,
+    pass: &mut Pass,
+    chooser: &mut Chooser,
+    wanted: Given,
+)
+    requires { IsPassOf nucleus.now pass.old }
+    ensures { IsPassOf nucleus.now pass.new }
+{
+    match chooser.receive_in_turn(nucleus, pass) {
+        Ok(received) => assert!(rt; given_of(&received) == wanted),
+        Err(_) => panic!(rt; "refused"),
+    }
+}
+
+/// Receives in turn, once for each and once in vain of four ports, and asserts what is given.
+fn assert_turns(
+    rt: &impl Abort,
+    nucleus: &Nucleus,
+    pass: &mut Pass,
+    chooser: &mut Chooser,
+    turns: &[Turn],
+)
+    requires { IsPassOf nucleus.now pass.old }
+    ensures { IsPassOf nucleus.now pass.new }
+{
+    for (number, position, body) in turns {
+        let wanted = Given::Message {
+            number: *number,
+            position: *position,
+            body: *body,
+        };
+        assert_turn(rt, nucleus, pass, chooser, wanted);
+    }
+    assert_turn(rt, nucleus, pass, chooser, Given::Nothing { looked: 4 });
+}
+
+/// By receives in turn a port of higher priority gives first, and equal ones give by turns: each goes behind the others.
+#[test]
+fn equal_priorities_take_turns(rt: HostRuntime) {
+    let bodies = [
+        (1, b'a'),
+        (1, b'b'),
+        (1, b'c'),
+        (2, b'd'),
+        (3, b'e'),
+        (3, b'f'),
+        (4, b'g'),
+    ];
+    let (nucleus, mut pass) = start_four_ports(&rt, rt.alloc(), &bodies);
+    let mut chooser = chooser_of(&rt, rt.alloc(), &[(1, 2), (2, 2), (3, 2), (4, 7)]);
+    let turns = [
+        (4, 0, b'g'),
+        (1, 0, b'a'),
+        (2, 0, b'd'),
+        (3, 0, b'e'),
+        (1, 1, b'b'),
+        (3, 1, b'f'),
+        (1, 2, b'c'),
+    ];
+    assert_turns(&rt, &nucleus, &mut pass, &mut chooser, &turns);
+    // The order is now 4, 2, 3, 1.
+    send_all(
+        &rt,
+        rt.alloc(),
+        &nucleus,
+        &mut pass,
+        &[(1, b'h'), (3, b'i')],
+    );
+    let more = [(3, 2, b'i'), (1, 3, b'h')];
+    assert_turns(&rt, &nucleus, &mut pass, &mut chooser, &more);
+    let _closed = close(&rt, nucleus, pass);
 }

@@ -1,5 +1,5 @@
-use Rattle.chorus_choose.proofs.Order.{enabling-orders}
+use Rattle.chorus_choose.proofs.Changed.{changes-order}
 use Rattle.chorus_choose.proofs.laws.looking_order.Goals as goal
 
 pub returns : goal.returns
-returns c = enabling-orders
+returns c = changes-order

@@ -1,7 +1,8 @@
-use Rattle.std.proofs.Common.{◌≡◌, ◌+◌, ◌-◌, ◌^◌, ℕ, min}
+use Rattle.std.proofs.Common.{◌≡◌, ◌-◌, ◌^◌, ℕ, min}
 use Rattle.chorus_choose.specs.Looking.{ports_of}
 use Rattle.chorus_choose.specs.Rounds.{rounds}
-use Rattle.chorus_choose.specs.Bells.{waits_of, waiter_bell}
+use Rattle.chorus_choose.specs.Bells.{waiter_bell}
+use Rattle.chorus_choose.specs.Waits.{HasWaited}
 use Rattle.chorus_choose.proofs.Asking.{Looked}
 use Rattle.chorus_choose.proofs.chooser.Chooser.wait_receive.Given as goal
 
@@ -10,6 +11,6 @@ invariant-loop g l = record {
   bell : waiter_bell l.waiter ≡ waiter_bell l.fn.waiter;
   n : ℕ;
   parks : l.parks ≡ min n (2 ^ 32 - 1);
-  waits : waits_of l.waiter ≡ waits_of l.fn.waiter + n;
+  waited : HasWaited n (ports_of l.self) l.fn.pass l.fn.waiter l.waiter;
   looked : Looked l.nucleus (rounds n (ports_of l.self)) l.fn.pass l.pass;
 }
