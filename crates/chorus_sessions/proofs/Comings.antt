@@ -2,7 +2,7 @@
 -- n is a nucleus, a, b and c are a pass at three moments, k counts those who came, ps are sessions.
 use Rattle.std.proofs.Common.{ℕ, ◌≡◌, ◌+◌, if◌then◌else◌, true, false, List, [], ◌∷◌, ◌++◌, take, length, Ok, slice_index_or, refl, sym, ◌∙◌, ap, subst, inl, inr, arith}
 use Rattle.std.proofs.lemmas.Bool.{cases_lt}
-use Rattle.std.proofs.lemmas.List.{length-append, get_or_append_left}
+use Rattle.std.proofs.lemmas.List.{append-nil, length-append, get_or_append_left}
 use Rattle.std.proofs.lemmas.List.Elements.{All-nil, All-append}
 use Rattle.std.proofs.Math.Seq.{get_or-append_seam}
 use Rattle.chorus_ui.specs.declared.ui.Ui.{Ui}
@@ -14,13 +14,14 @@ use Rattle.chorus_turn.specs.Knowing.{note_of}
 use Rattle.law_closing.specs.Places.{PlaceNote}
 use Rattle.chorus_nucleus.specs.declared.nucleus.Nucleus.{Nucleus}
 use Rattle.chorus_nucleus.specs.declared.pass.Pass.{Pass}
-use Rattle.chorus_nucleus.specs.Passes.{known, caller_of}
+use Rattle.chorus_nucleus.specs.Passes.{layout_of, known, caller_of}
+use Rattle.chorus_nucleus.specs.Taking.{SeesMore}
 use Rattle.chorus_nucleus.specs.Coming.{IsStarted, Enters, Retires}
 use Rattle.chorus_sessions.specs.declared.hand.Hand.{Hand}
 use Rattle.chorus_sessions.specs.declared.session.Session.{Session}
 use Rattle.chorus_sessions.specs.Hands.{hands_out, HandNothingOut, AreKept, IsKept}
 use Rattle.chorus_sessions.specs.Sessions.{AreSessions, Draws, Goes, HasAllBack, HaveRun, IsKeeper, IsSession}
-use Rattle.chorus_sessions.proofs.Holding.{holds-none}
+use Rattle.chorus_sessions.proofs.Holding.{holds-none, holds-later}
 
 abbrev MadeQuiet : Placed PlaceNote → Type 0
 MadeQuiet m = hands_out m.remarked.entry.act ≡ false
@@ -41,7 +42,7 @@ session-new n actor a b p new seat none = record {
   notes = ap (λ (v : Knowledge PlaceNote). v.notes) new.knows;
   keeper = ap (λ (v : Knowledge PlaceNote). v.keeper) new.knows;
   seat = seat;
-  holds = holds-none (known p.pass).mine (caller_of p.pass).last p.hand.taken.items
+  holds = holds-none (layout_of n) (known p.pass) (known p.pass).mine (caller_of p.pass).last p.hand.taken.items
       (subst HandNothingOut (sym (ap (λ (v : Knowledge PlaceNote). v.mine) new.knows)) (All-nil MadeQuiet)) none;
 }
 
@@ -139,35 +140,51 @@ keeper-retired n k e p a b r is h =
 
 -- What they have in hand.
 
-kept-push : (notes : List (Note PlaceNote)) (hands : List Hand) (note : Note PlaceNote) (hand : Hand) → AreKept notes hands → IsKept note hand → AreKept (notes ++ note ∷ []) (hands ++ hand ∷ [])
-kept-push [] [] note hand all new = (new, tt)
-kept-push (n ∷ ns) (h ∷ hs) note hand all new = (all.0, kept-push ns hs note hand all.1 new)
-kept-push [] (h ∷ hs) note hand all new = absurd all
-kept-push (n ∷ ns) [] note hand all new = absurd all
+kept-push : (l : Layout) (v : Knowledge PlaceNote) (notes : List (Note PlaceNote)) (hands : List Hand) (note : Note PlaceNote) (hand : Hand) → AreKept l v notes hands → IsKept l v note hand → AreKept l v (notes ++ note ∷ []) (hands ++ hand ∷ [])
+kept-push l v [] [] note hand all new = (new, tt)
+kept-push l v (n ∷ ns) (h ∷ hs) note hand all new = (all.0, kept-push l v ns hs note hand all.1 new)
+kept-push l v [] (h ∷ hs) note hand all new = absurd all
+kept-push l v (n ∷ ns) [] note hand all new = absurd all
 
-pub kept-more : (n : Nucleus) (p : Session) (a b : Pass) (hands : List Hand) → Retires n p.pass a b → IsSession n p → AreKept (known a).notes hands → AreKept (known b).notes (hands ++ p.hand ∷ [])
+one-later : (l : Layout) (v u : Knowledge PlaceNote) (note : Note PlaceNote) (hand : Hand) → SeesMore v u → IsKept l v note hand → IsKept l u note hand
+one-later l v u note hand sees k = record {
+  seat_is = k.seat_is;
+  last = k.last;
+  holds = holds-later l v u note.mine note.mine [] k.last k.last hand.taken.items sees (omega arith) (sym (append-nil note.mine)) (All-nil MadeQuiet) k.holds;
+}
+
+kept-later : (l : Layout) (v u : Knowledge PlaceNote) (notes : List (Note PlaceNote)) (hands : List Hand) → SeesMore v u → AreKept l v notes hands → AreKept l u notes hands
+kept-later l v u [] [] sees all = tt
+kept-later l v u (note ∷ notes) (hand ∷ hands) sees all = (one-later l v u note hand sees all.0, kept-later l v u notes hands sees all.1)
+kept-later l v u [] (hand ∷ hands) sees all = absurd all
+kept-later l v u (note ∷ notes) [] sees all = absurd all
+
+pub kept-more : (n : Nucleus) (p : Session) (a b : Pass) (hands : List Hand) → Retires n p.pass a b → IsSession n p → AreKept (layout_of n) (known a) (known a).notes hands → AreKept (layout_of n) (known b) (known b).notes (hands ++ p.hand ∷ [])
 kept-more n p a b hands r is all =
+    let l = layout_of n in
     let notes = ap (λ (v : Knowledge PlaceNote). v.notes) r.knows ∙ ap (λ ks. (known a).notes ++ note_of (known p.pass) ∷ ks) is.notes in
-    subst (λ ks. AreKept ks (hands ++ p.hand ∷ [])) (sym notes)
-    (kept-push (known a).notes hands (note_of (known p.pass)) p.hand all
-    record { seat_is = is.seat; last = (caller_of p.pass).last; holds = is.holds })
+    let own : IsKept l (known p.pass) (note_of (known p.pass)) p.hand = record { seat_is = is.seat; last = (caller_of p.pass).last; holds = is.holds } in
+    subst (λ ks. AreKept l (known b) ks (hands ++ p.hand ∷ [])) (sym notes)
+    (kept-push l (known b) (known a).notes hands (note_of (known p.pass)) p.hand (kept-later l (known a) (known b) (known a).notes hands (λ k. (r.sees k).0) all)
+    (one-later l (known p.pass) (known b) (note_of (known p.pass)) p.hand (λ k. (r.sees k).1) own))
 
-pub went : (n : Nucleus) (k : ℕ) (p : Session) (a b : Pass) (hands more : List Hand) → Retires n p.pass a b → IsSession n p → IsKeeper k (length hands) a → AreKept (known a).notes hands → more ≡ hands ++ p.hand ∷ [] → IsKeeper k (length more) b × AreKept (known b).notes more × (length more ≡ length hands + 1)
+pub went : (n : Nucleus) (k : ℕ) (p : Session) (a b : Pass) (hands more : List Hand) → Retires n p.pass a b → IsSession n p → IsKeeper k (length hands) a → AreKept (layout_of n) (known a) (known a).notes hands → more ≡ hands ++ p.hand ∷ []
+    → IsKeeper k (length more) b × AreKept (layout_of n) (known b) (known b).notes more × (length more ≡ length hands + 1)
 went n k p a b hands more r is h all grown =
     let count = length-append hands (p.hand ∷ []) in
     let longer = ap (λ (xs : List Hand). length xs) grown in
     let one : length hands + 1 ≡ length more = omega (arith, count, longer) in (
       subst (λ e. IsKeeper k e b) one (keeper-retired n k (length hands) p a b r is h),
-      subst (AreKept (known b).notes) (sym grown) (kept-more n p a b hands r is all),
+      subst (AreKept (layout_of n) (known b) (known b).notes) (sym grown) (kept-more n p a b hands r is all),
       sym one,
     )
 
-kept-nothing : (notes : List (Note PlaceNote)) → length notes ≡ 0 → AreKept notes []
-kept-nothing [] none = tt
-kept-nothing (note ∷ notes) none = absurd (omega (arith, none))
+kept-nothing : (l : Layout) (v : Knowledge PlaceNote) (notes : List (Note PlaceNote)) → length notes ≡ 0 → AreKept l v notes []
+kept-nothing l v [] none = tt
+kept-nothing l v (note ∷ notes) none = absurd (omega (arith, none))
 
-pub kept-none : (k : ℕ) (a : Pass) (hands : List Hand) → IsKeeper k 0 a → hands ≡ [] → AreKept (known a).notes hands
-kept-none k a hands h none = subst (AreKept (known a).notes) (sym none) (kept-nothing (known a).notes h.ended_is)
+pub kept-none : (l : Layout) (k : ℕ) (a : Pass) (hands : List Hand) → IsKeeper k 0 a → hands ≡ [] → AreKept l (known a) (known a).notes hands
+kept-none l k a hands h none = subst (AreKept l (known a) (known a).notes) (sym none) (kept-nothing l (known a) (known a).notes h.ended_is)
 
 pub all-back : (k : ℕ) (a : Pass) → IsKeeper k k a → HasAllBack a
 all-back k a h = let made = h.drawn_is in let ended = h.ended_is in record { keeper = h.keeper; ended = omega (arith, made, ended); quiet = h.quiet }

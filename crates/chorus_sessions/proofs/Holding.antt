@@ -1,11 +1,12 @@
 -- What is in hand, as a pass goes on.
--- q is a port, n a nucleus, a and b are a pass before and after.
+-- q is a port, n a nucleus, l a layout, a and b are a pass before and after, v and u are what a pass knows.
 use Rattle.std.proofs.Common.{ℕ, ◌≡◌, ◌<◌, ◌≤◌, ◌+◌, ◌==◌, ◌⊎◌, cond, true, false, List, [], ◌∷◌, ◌++◌, length, Option, Some, Ok, slice_get, refl, sym, ◌∙◌, ap, subst, inl, inr, arith, append_assoc}
 use Rattle.std.specs.List.{All}
 use Rattle.std.proofs.lemmas.Bool.{cases_lt, false≢true}
 use Rattle.std.proofs.lemmas.Bool.Decides.{nat_tests}
 use Rattle.std.proofs.lemmas.List.{length-append}
 use Rattle.chorus_ui.specs.declared.ui.Ui.{Ui}
+use Rattle.chorus_ui.specs.declared.layout.Layout.{Layout}
 use Rattle.chorus_entry.specs.declared.entry.Entry.{Entry}
 use Rattle.chorus_entry.specs.declared.act.Act.{Act}
 use Rattle.chorus_entry.specs.declared.id.MsgId.{MsgId}
@@ -26,8 +27,11 @@ use Rattle.chorus_turn.specs.Journals.{with_place}
 use Rattle.chorus_turn.specs.Lists.{StartsWith}
 use Rattle.chorus_nucleus.specs.declared.nucleus.Nucleus.{Nucleus}
 use Rattle.chorus_nucleus.specs.declared.pass.Pass.{Pass}
-use Rattle.chorus_nucleus.specs.Passes.{known, caller_of}
+use Rattle.chorus_nucleus.specs.Passes.{layout_of, known, caller_of}
 use Rattle.chorus_nucleus.specs.Calls.{IsCall, place_of}
+use Rattle.chorus_nucleus.specs.Taking.{SeesMore}
+use Rattle.chorus_nucleus.proofs.Trying.{origin-later}
+use Rattle.chorus_nucleus.proofs.TakeTurns.{origin, sees}
 use Rattle.chorus_sessions.specs.declared.hand.PortMessage.{PortMessage}
 use Rattle.chorus_sessions.specs.Hands.{entries_made, hands_out, HandNothingOut, IsInHand, IsHandedOutBy, Holds}
 use Rattle.chorus_sessions.proofs.Lists.{In, in-either, in-map-back, all-in, get-low, get-some, get-front, get-longer, get-seam}
@@ -45,11 +49,13 @@ stands-later e xs ys s = record {
   is = ap (λ zs. zs ++ ys) s.is ∙ append_assoc s.newer (e ∷ s.older) ys;
 }
 
-by-later : (xs ys : List (Placed PlaceNote)) (last later : ℕ) (got : PortMessage) (e : Entry) → last ≤ later → StartsWith ys xs → IsHandedOutBy xs last got e → IsHandedOutBy ys later got e
-by-later xs ys last later got e le starts h = record {
+by-later : (l : Layout) (v u : Knowledge PlaceNote) (xs ys : List (Placed PlaceNote)) (last later : ℕ) (got : PortMessage) (e : Entry) → SeesMore v u → last ≤ later → StartsWith ys xs → IsHandedOutBy l v xs last got e → IsHandedOutBy l u ys later got e
+by-later l v u xs ys last later got e sees le starts h = record {
   stands = subst (λ zs. StandsIn e (entries_made zs)) (sym starts.1) (subst (λ zs. StandsIn e zs) (sym (entries-append xs starts.0)) (stands-later e (entries_made xs) (entries_made starts.0) h.stands));
   act = h.act;
   upto = omega (arith, h.upto, le);
+  settled = h.settled;
+  origin = origin-later l got.port (Reply.Taken got.position got.message h.settled) v u sees h.origin;
 }
 
 -- nothing was handed out by an entry that stands there
@@ -74,18 +80,19 @@ in-hand-longer q n x taken more h = record { index = h.index; got = h.got; stand
 nothing : Entry
 nothing = record { clock = 0; place = 0; seat = 0; act = Act.NoCall }
 
-pub holds-none : (mine : List (Placed PlaceNote)) (last : ℕ) (taken : List PortMessage) → HandNothingOut mine → taken ≡ [] → Holds mine last taken
-holds-none mine last taken quiet none = record {
+pub holds-none : (l : Layout) (v : Knowledge PlaceNote) (mine : List (Placed PlaceNote)) (last : ℕ) (taken : List PortMessage) → HandNothingOut mine → taken ≡ [] → Holds l v mine last taken
+holds-none l v mine last taken quiet none = record {
   entry = λ i. nothing;
   by = λ i got found. (let at : slice_get [] i ≡ Some got = ap (λ (xs : List PortMessage). slice_get xs i) (sym none) ∙ found in absurd (cc));
   apart = λ i j lt low. (let count = ap (λ (xs : List PortMessage). length xs) none in absurd (omega (arith, low, count)));
   all = λ e q n x stands act. absurd (none-out q mine quiet e n x (in-so e (entries_made mine) stands) act);
 }
 
-pub holds-later : (xs ys more : List (Placed PlaceNote)) (last later : ℕ) (taken : List PortMessage) → last ≤ later → ys ≡ xs ++ more → HandNothingOut more → Holds xs last taken → Holds ys later taken
-holds-later xs ys more last later taken le grown quiet h = record {
+pub holds-later : (l : Layout) (v u : Knowledge PlaceNote) (xs ys more : List (Placed PlaceNote)) (last later : ℕ) (taken : List PortMessage) → SeesMore v u → last ≤ later → ys ≡ xs ++ more → HandNothingOut more → Holds l v xs last taken
+    → Holds l u ys later taken
+holds-later l v u xs ys more last later taken sees le grown quiet h = record {
   entry = h.entry;
-  by = λ i got found. by-later xs ys last later got (h.entry i) le (more, grown) (h.by i got found);
+  by = λ i got found. by-later l v u xs ys last later got (h.entry i) sees le (more, grown) (h.by i got found);
   apart = h.apart;
   all = λ e q n x stands act. elim (entry-either e xs more ys grown stands) [
     | inl old ↦ h.all e q n x old act
@@ -101,7 +108,7 @@ differs i k lt = grind (arith, nat_tests)
 same-test : (i k : ℕ) → i ≡ k → (i == k) ≡ true
 same-test i k is = grind (arith, nat_tests)
 
-module _ (mine : List (Placed PlaceNote)) (last : ℕ) (taken : List PortMessage) (got : PortMessage) (e : Entry) (h : Holds mine last taken) where
+module _ (l : Layout) (v u : Knowledge PlaceNote) (mine : List (Placed PlaceNote)) (last : ℕ) (taken : List PortMessage) (got : PortMessage) (e : Entry) (h : Holds l v mine last taken) where
   abbrev entries : ℕ → Entry
   entries i = cond (i == length taken) e (h.entry i)
 
@@ -124,21 +131,21 @@ module _ (mine : List (Placed PlaceNote)) (last : ℕ) (taken : List PortMessage
       let id : got.message.id ≡ x = cc in
       record { index = length taken; got = got; stands = get-seam taken got; port = port; position = position; id = id }
 
-  pub holds-more : (ys more : List (Placed PlaceNote)) (later : ℕ) → last ≤ later → ys ≡ mine ++ more → OneSince more → last < e.clock → IsHandedOutBy ys later got e → Holds ys later (taken ++ got ∷ [])
-  holds-more ys more later le grown since above new = record {
+  pub holds-more : (ys more : List (Placed PlaceNote)) (later : ℕ) → SeesMore v u → last ≤ later → ys ≡ mine ++ more → OneSince more → last < e.clock → IsHandedOutBy l u ys later got e → Holds l u ys later (taken ++ got ∷ [])
+  holds-more ys more later sees le grown since above new = record {
     entry = entries;
     by = λ i x found.
         (let low = get-low (taken ++ got ∷ []) i x found in
         let count = length-append taken (got ∷ []) in
         elim (cases_lt i (length taken)) [
           | inl lt ↦
-              subst (λ (z : Entry). IsHandedOutBy ys later x z) (sym (low-is i lt))
-              (by-later mine ys last later x (h.entry i) le (more, grown) (h.by i x (sym (get-front taken (got ∷ []) i lt) ∙ found)))
+              subst (λ (z : Entry). IsHandedOutBy l u ys later x z) (sym (low-is i lt))
+              (by-later l v u mine ys last later x (h.entry i) sees le (more, grown) (h.by i x (sym (get-front taken (got ∷ []) i lt) ∙ found)))
           | inr high ↦
               (let is : i ≡ length taken = omega (arith, low, high, count) in
               let both : Some got ≡ Some x = sym (get-seam taken got) ∙ sym (ap (λ j. slice_get (taken ++ got ∷ []) j) is) ∙ found in
               let same : got ≡ x = cc in
-              subst (λ (z : PortMessage). IsHandedOutBy ys later z (entries i)) same (subst (λ (z : Entry). IsHandedOutBy ys later got z) (sym (last-is i is)) new))
+              subst (λ (z : PortMessage). IsHandedOutBy l u ys later z (entries i)) same (subst (λ (z : Entry). IsHandedOutBy l u ys later got z) (sym (last-is i is)) new))
         ]);
     apart = λ i j lt low.
         (let count = length-append taken (got ∷ []) in
@@ -174,8 +181,8 @@ one-of-turn : (p k : ℕ) (seen : List (List (Remarked PlaceNote))) (r : PlaceNo
 one-of-turn p k seen r e es quiet f q n x (inl is) act = sym is
 one-of-turn p k seen r e es quiet f q n x (inr a) act = absurd (none-out q (with_place p seen (numbered (k + 1) r es)) (quiet-placed p (k + 1) seen r es quiet) f n x a act)
 
-pub holds-taken : (n : Nucleus) (q : Ui) (a b : Pass) (pos : ℕ) (m : Message) (settled : Option Settle) (taken : List PortMessage) → IsCall n (Command.Take q) a b (Ok (Reply.Taken pos m settled)) → Holds (known a).mine (caller_of a).last taken
-    → Holds (known b).mine (caller_of b).last (taken ++ record { port = q; position = pos; message = m } ∷ [])
+pub holds-taken : (n : Nucleus) (q : Ui) (a b : Pass) (pos : ℕ) (m : Message) (settled : Option Settle) (taken : List PortMessage) → IsCall n (Command.Take q) a b (Ok (Reply.Taken pos m settled)) → Holds (layout_of n) (known a) (known a).mine (caller_of a).last taken
+    → Holds (layout_of n) (known b) (known b).mine (caller_of b).last (taken ++ record { port = q; position = pos; message = m } ∷ [])
 holds-taken n q a b pos m settled taken h holds =
     let t = h.turn.turn in
     let all = t.entry ∷ t.later in
@@ -189,9 +196,13 @@ holds-taken n q a b pos m settled taken h holds =
     let grown = ap (λ (z : Knowledge PlaceNote). z.mine) t.knows in
     let above = t.above in
     let upto = t.upto in
-    holds-more (known a).mine (caller_of a).last taken (record { port = q; position = pos; message = m }) t.entry holds (known b).mine _ (caller_of b).last (omega (arith, above, upto)) grown (one-of-turn (place_of n (Command.Take q) a) 0 _ _ t.entry t.later quiet) above
+    let p = place_of n (Command.Take q) a in
+    holds-more (layout_of n) (known a) (known b) (known a).mine (caller_of a).last taken (record { port = q; position = pos; message = m }) t.entry holds (known b).mine _ (caller_of b).last
+    (sees (layout_of n) p q r (known a) (known b) (caller_of a) (caller_of b) h.turn) (omega (arith, above, upto)) grown (one-of-turn p 0 _ _ t.entry t.later quiet) above
     record {
-      stands = stands-new (place_of n (Command.Take q) a) 0 _ _ t.entry t.later (known a).mine (known b).mine grown;
+      stands = stands-new p 0 _ _ t.entry t.later (known a).mine (known b).mine grown;
       act = act;
       upto = upto;
+      settled = settled;
+      origin = origin (layout_of n) p q r (known a) (known b) (caller_of a) (caller_of b) h.turn;
     }

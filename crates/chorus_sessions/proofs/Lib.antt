@@ -1,6 +1,7 @@
 pub mod Lists
 pub mod Once
 pub mod Received
+pub mod Ordered
 pub mod Positions
 pub mod Quiet
 pub mod Holding

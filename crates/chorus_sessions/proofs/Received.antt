@@ -70,10 +70,10 @@ after-starts (Act.Cancel number) xs = ([], sym (append-nil xs))
 after-starts (Act.Delete port discarded) xs = ([], sym (append-nil xs))
 after-starts (Act.Gone id port) xs = ([], sym (append-nil xs))
 
-keeps : (p : Entry → Bool) (e : Entry) (es : List Entry) → p e ≡ true → filter p (e ∷ es) ≡ e ∷ filter p es
+pub keeps : (p : Entry → Bool) (e : Entry) (es : List Entry) → p e ≡ true → filter p (e ∷ es) ≡ e ∷ filter p es
 keeps p e es h = ap (λ b. cond b (e ∷ filter p es) (filter p es)) h
 
-skips : (p : Entry → Bool) (e : Entry) (es : List Entry) → p e ≡ false → filter p (e ∷ es) ≡ filter p es
+pub skips : (p : Entry → Bool) (e : Entry) (es : List Entry) → p e ≡ false → filter p (e ∷ es) ≡ filter p es
 skips p e es h = ap (λ b. cond b (e ∷ filter p es) (filter p es)) h
 
 grows : (q : Ui) (e : Entry) (past : List Entry) → StartsWith (received (on q (e ∷ past))) (received (on q past))

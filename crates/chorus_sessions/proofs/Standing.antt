@@ -42,7 +42,9 @@ use Rattle.chorus_nucleus.proofs.Running.{a-closed-nucleus-is-a-run}
 use Rattle.chorus_sessions.specs.declared.hand.Hand.{Hand}
 use Rattle.chorus_sessions.specs.declared.hand.PortMessage.{PortMessage}
 use Rattle.chorus_sessions.specs.Sessions.{HasAllBack, IsRunOf}
-use Rattle.chorus_sessions.specs.Hands.{hands_out, entries_made, AreHandedOut, AreKept, IsInSomeHand, IsKept}
+use Rattle.chorus_sessions.specs.Hands.{hands_out, entries_made, AreHandedOut, AreKept, HandsOut, IsInSomeHand, IsKept}
+use Rattle.chorus_nucleus.proofs.Posted.{messages-taken-were-posted}
+use Rattle.chorus_sessions.proofs.Ordered.{stands-before}
 use Rattle.chorus_sessions.proofs.Lists.{In, in-filter, in-filter-back, in-filter-holds, in-map, in-map-back, in-reverse, in-row, all-in, each-in, get-low, get-or, get-some}
 use Rattle.chorus_sessions.proofs.Received.{in-so, stands-so, one-entry}
 use Rattle.chorus_sessions.proofs.Once.{received-once}
@@ -122,7 +124,7 @@ module _ (n : Nucleus) (pass : Pass) (c : Closed) (h : IsClosed n pass c) (is : 
       )
 
   -- a message in hand was handed out by an entry of the run, by the hand's seat
-  out : (note : Note PlaceNote) (hand : Hand) → In note v.notes → (k : IsKept note hand) (i : ℕ) (got : PortMessage) → slice_get hand.taken.items i ≡ Some got → In (k.holds.entry i) (past_of c) × ((k.holds.entry i).seat ≡ hand.seat)
+  out : (note : Note PlaceNote) (hand : Hand) → In note v.notes → (k : IsKept l v note hand) (i : ℕ) (got : PortMessage) → slice_get hand.taken.items i ≡ Some got → In (k.holds.entry i) (past_of c) × ((k.holds.entry i).seat ≡ hand.seat)
   out note hand noted k i got found =
       let by = k.holds.by i got found in
       let m = in-map-back (λ (z : Placed PlaceNote). z.remarked.entry) (k.holds.entry i) note.mine (in-so (k.holds.entry i) (entries_made note.mine) by.stands) in
@@ -155,7 +157,7 @@ module _ (n : Nucleus) (pass : Pass) (c : Closed) (h : IsClosed n pass c) (is : 
       let port = same-port m.port k.port m.position k.position k.message.id e f a b here there in
       one m.port k.message.id m.position k.position e f a b here (there ∙ ap (λ q. Act.Take q k.position k.message.id) port)
 
-  once : (note : Note PlaceNote) (hand : Hand) → In note v.notes → (k : IsKept note hand) (i j : ℕ) (x y : PortMessage) → slice_get hand.taken.items i ≡ Some x → slice_get hand.taken.items j ≡ Some y → x.message.id ≡ y.message.id → i ≡ j
+  once : (note : Note PlaceNote) (hand : Hand) → In note v.notes → (k : IsKept l v note hand) (i j : ℕ) (x y : PortMessage) → slice_get hand.taken.items i ≡ Some x → slice_get hand.taken.items j ≡ Some y → x.message.id ≡ y.message.id → i ≡ j
   once note hand noted k i j x y here there same =
       let first = out note hand noted k i x here in
       let second = out note hand noted k j y there in
@@ -207,7 +209,7 @@ module _ (n : Nucleus) (pass : Pass) (c : Closed) (h : IsClosed n pass c) (is : 
   behind : (q : Ui) (m : ℕ) (x : MsgId) (hand : Hand) (hands : List Hand) → IsInSomeHand q m x hands → IsInSomeHand q m x (hand ∷ hands)
   behind q m x hand hands found = (suc found.0, found.1, found.2, found.3)
 
-  out-noted : (p : ℕ) (notes : List (Note PlaceNote)) (hands : List Hand) → AreKept notes hands → All (λ (k : Note PlaceNote). by_seat k.seat (h.closes.log p) ≡ at_place p k.mine) notes → All (Out p hands) (seats_of notes)
+  out-noted : (p : ℕ) (notes : List (Note PlaceNote)) (hands : List Hand) → AreKept l v notes hands → All (λ (k : Note PlaceNote). by_seat k.seat (h.closes.log p) ≡ at_place p k.mine) notes → All (Out p hands) (seats_of notes)
   out-noted p [] [] kept-all noted = All-nil (Out p [])
   out-noted p (note ∷ notes) (hand ∷ hands) kept-all noted =
       let D : Note PlaceNote → Type 0 = λ k. by_seat k.seat (h.closes.log p) ≡ at_place p k.mine in
@@ -222,7 +224,7 @@ module _ (n : Nucleus) (pass : Pass) (c : Closed) (h : IsClosed n pass c) (is : 
   out-noted p [] (hand ∷ hands) kept-all noted = absurd kept-all
   out-noted p (note ∷ notes) [] kept-all noted = absurd kept-all
 
-  lost-none : (hands : List Hand) → AreKept v.notes hands → (e : Entry) (q : Ui) (m : ℕ) (x : MsgId) → In e (past_of c) → e.act ≡ Act.Take q m x → IsInSomeHand q m x hands
+  lost-none : (hands : List Hand) → AreKept l v v.notes hands → (e : Entry) (q : Ui) (m : ℕ) (x : MsgId) → In e (past_of c) → e.act ≡ Act.Take q m x → IsInSomeHand q m x hands
   lost-none hands kept-all e q m x a act =
       let at = from-past e a in
       let k = at.0 in
@@ -234,15 +236,15 @@ module _ (n : Nucleus) (pass : Pass) (c : Closed) (h : IsClosed n pass c) (is : 
       All-contains (Out (k + 1) hands) (v.seat ∷ seats_of v.notes) r.entry.seat outs every r q m x at.4 refl (ap (λ (e : Entry). e.act) at.3 ∙ act)
 
   -- the note of a hand
-  kept-at : (notes : List (Note PlaceNote)) (hands : List Hand) → AreKept notes hands → (a : ℕ) (hand : Hand) → slice_get hands a ≡ Some hand → (note : Note PlaceNote) × In note notes × IsKept note hand
+  kept-at : (notes : List (Note PlaceNote)) (hands : List Hand) → AreKept l v notes hands → (a : ℕ) (hand : Hand) → slice_get hands a ≡ Some hand → (note : Note PlaceNote) × In note notes × IsKept l v note hand
   kept-at [] [] all a hand found = absurd (cc)
-  kept-at (note ∷ notes) (other ∷ hands) all zero hand found = let same : other ≡ hand = cc in (note, inl refl, subst (IsKept note) same all.0)
+  kept-at (note ∷ notes) (other ∷ hands) all zero hand found = let same : other ≡ hand = cc in (note, inl refl, subst (IsKept l v note) same all.0)
   kept-at (note ∷ notes) (other ∷ hands) all (suc a) hand found = let k = kept-at notes hands all.1 a hand found in (k.0, inr k.1, k.2)
   kept-at [] (other ∷ hands) all a hand found = absurd all
   kept-at (note ∷ notes) [] all a hand found = absurd all
 
   -- the seat of a hand is that of its note
-  seat-at : (notes : List (Note PlaceNote)) (hands : List Hand) → AreKept notes hands → (a : ℕ) (hand : Hand) → slice_get hands a ≡ Some hand → slice_get (seats_of notes) a ≡ Some hand.seat
+  seat-at : (notes : List (Note PlaceNote)) (hands : List Hand) → AreKept l v notes hands → (a : ℕ) (hand : Hand) → slice_get hands a ≡ Some hand → slice_get (seats_of notes) a ≡ Some hand.seat
   seat-at [] [] all a hand found = absurd (cc)
   seat-at (note ∷ notes) (other ∷ hands) all zero hand found = let same : other ≡ hand = cc in ap Some (all.0.seat_is ∙ ap (λ (x : Hand). x.seat) same)
   seat-at (note ∷ notes) (other ∷ hands) all (suc a) hand found = seat-at notes hands all.1 a hand found
@@ -250,7 +252,7 @@ module _ (n : Nucleus) (pass : Pass) (c : Closed) (h : IsClosed n pass c) (is : 
   seat-at (note ∷ notes) [] all a hand found = absurd all
 
   -- and no seat stands twice: they are as many as numbers were drawn, and each of these is among them
-  one-hand : (hands : List Hand) → AreKept v.notes hands → (a b : ℕ) (first other : Hand) → slice_get hands a ≡ Some first → slice_get hands b ≡ Some other → first.seat ≡ other.seat → a ≡ b
+  one-hand : (hands : List Hand) → AreKept l v v.notes hands → (a b : ℕ) (first other : Hand) → slice_get hands a ≡ Some first → slice_get hands b ≡ Some other → first.seat ≡ other.seat → a ≡ b
   one-hand hands all a b first other here there same =
       let seats = v.seat ∷ seats_of v.notes in
       let long : length seats ≡ length v.notes + 1 = ap suc (length-map v.notes (λ (k : Note PlaceNote). k.seat)) ∙ omega arith in
@@ -258,7 +260,7 @@ module _ (n : Nucleus) (pass : Pass) (c : Closed) (h : IsClosed n pass c) (is : 
       let is = one-index seats (suc a) (suc b) other.seat every (seat-at v.notes hands all a first here ∙ ap Some same) (seat-at v.notes hands all b other there) in
       omega (arith, is)
 
-  pub are-handed-out : (hands : List Hand) → AreKept v.notes hands → AreHandedOut (past_of c) hands
+  pub are-handed-out : (hands : List Hand) → AreKept l v v.notes hands → AreHandedOut (past_of c) hands
   are-handed-out hands all = record {
     each = λ a i hand got here found.
         (let k = kept-at v.notes hands all a hand here in
@@ -269,6 +271,20 @@ module _ (n : Nucleus) (pass : Pass) (c : Closed) (h : IsClosed n pass c) (is : 
           stands = stands-so (has.entry i) (past_of c) there.0;
           tells = record { act = (has.by i got found).act; seat_is = there.1 };
           position = position-of got.port got.position got.message.id (has.entry i) there.0 (has.by i got found).act;
+          posted = messages-taken-were-posted l v h.comers c got.port got.position got.message (has.by i got found).settled h.shape h.closes (has.by i got found).origin;
+        });
+    in_order = λ a i j hand m k here found found' lt.
+        (let z = kept-at v.notes hands all a hand here in
+        let has = z.2.holds in
+        let first = out z.0 hand z.1 z.2 i m found in
+        let second = out z.0 hand z.1 z.2 j k found' in
+        record {
+          early = has.entry i;
+          late = has.entry j;
+          order = stands-before l (actor_among h.comers) (has.entry i) (has.entry j) (past_of c) law.run first.0 second.0 (first.1 ∙ sym second.1)
+              (has.apart i j lt (get-low hand.taken.items j k found'));
+          first = record { act = (has.by i m found).act; seat_is = first.1 };
+          second = record { act = (has.by j k found').act; seat_is = second.1 };
         });
     once = λ a i j hand x y here found found' same.
         (let k = kept-at v.notes hands all a hand here in once k.0 hand k.1 k.2 i j x y found found' same);

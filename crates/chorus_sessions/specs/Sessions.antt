@@ -1,6 +1,7 @@
 -- What sessions keep, and how they come and go.
 -- n is a nucleus, a and b are a pass before and after, l a layout, i is the index of a session.
-use Rattle.std.specs.Prelude.{ℕ, ◌≡◌, ◌<◌, ◌≤◌, ◌+◌, Bool, true, false, Option, Some, None, List, [], ◌∷◌, ◌++◌, length, slice_index_or, Result, Ok, Err}
+use Rattle.std.specs.Prelude.{ℕ, ◌≡◌, ◌<◌, ◌≤◌, ◌+◌, ◌⊎◌, Bool, true, false, Option, List, [], ◌∷◌, ◌++◌, length, slice_index_or, Result, Ok, Err}
+use Rattle.std.specs.declared.alloc.AllocError.{AllocError}
 use Rattle.chorus_ui.specs.declared.ui.Ui.{Ui}
 use Rattle.chorus_ui.specs.declared.layout.Layout.{Layout}
 use Rattle.chorus_entry.specs.declared.command.Command.{Command}
@@ -15,9 +16,12 @@ use Rattle.chorus_net.specs.declared.closed.Closed.{Closed}
 use Rattle.chorus_nucleus.specs.declared.fault.CallFault.{CallFault}
 use Rattle.chorus_nucleus.specs.declared.nucleus.Nucleus.{Nucleus}
 use Rattle.chorus_nucleus.specs.declared.pass.Pass.{Pass}
-use Rattle.chorus_nucleus.specs.Passes.{known, caller_of, IsPassOf}
+use Rattle.chorus_nucleus.specs.Passes.{layout_of, known, caller_of, IsPassOf}
 use Rattle.chorus_nucleus.specs.Calls.{IsCall}
+use Rattle.chorus_nucleus.specs.Taking.{SeesMore}
 use Rattle.chorus_nucleus.specs.Runs.{IsARun}
+use Rattle.chorus_sessions.specs.declared.calls.Asked.{Asked}
+use Rattle.chorus_sessions.specs.declared.calls.Asked.TheVariants as Asked
 use Rattle.chorus_sessions.specs.declared.fault.SessionsFault.{SessionsFault}
 use Rattle.chorus_sessions.specs.declared.hand.PortMessage.{PortMessage}
 use Rattle.chorus_sessions.specs.declared.session.Session.{Session}
@@ -37,7 +41,7 @@ pub record IsSession (n : Nucleus) (s : Session) : Type 0 where
   pub notes : (known s.pass).notes ≡ []
   pub keeper : (known s.pass).keeper ≡ false
   pub seat : (known s.pass).seat ≡ s.hand.seat
-  pub holds : Holds (known s.pass).mine (caller_of s.pass).last s.hand.taken.items
+  pub holds : Holds (layout_of n) (known s.pass) (known s.pass).mine (caller_of s.pass).last s.hand.taken.items
 
 pub record AreSessions (n : Nucleus) (ss : List Session) : Type 0 where
   pub each : (i : ℕ) (d : Session) → i < length ss → IsSession n (slice_index_or ss i d)
@@ -46,13 +50,15 @@ pub record AreSessions (n : Nucleus) (ss : List Session) : Type 0 where
 pub record HaveRun (n : Nucleus) (before after : List Session) : Type 0 where
   pub each : (i : ℕ) (d : Session) → i < length before → IsSession n (slice_index_or after i d)
 
--- The pass took turns in which nothing was handed out: it is the same one still, and its caller's clock did not fall.
+-- The pass took turns in which nothing was handed out: it is the same one still, has seen what it had seen, and its
+-- caller's clock did not fall.
 pub record Goes (n : Nucleus) (a b : Pass) : Type 0 where
   pub pass : IsPassOf n b
   pub same : IsSamePass (known a) (known b)
   pub more : List (Placed PlaceNote)
   pub mine : (known b).mine ≡ (known a).mine ++ more
   pub quiet : HandNothingOut more
+  pub sees : SeesMore (known a) (known b)
   pub last : (caller_of a).last ≤ (caller_of b).last
 
 -- the command takes a message
@@ -60,19 +66,37 @@ abbrev pub takes : Command → Bool
 takes (Command.Take q) = true
 takes _ = false
 
--- The pass asked for a message of the port: a take handed this one out, or nothing was handed out.
-abbrev pub Asks : Nucleus → Ui → Result (Option PortMessage) CallFault → Pass → Pass → Type 0
-Asks n q (Ok (Some got)) a b =
-    (settled : Option Settle) × (got.port ≡ q)
-    × IsCall n (Command.Take q) a b (Ok (Reply.Taken got.position got.message settled))
-Asks n q (Ok None) a b = Goes n a b
-Asks n q (Err f) a b = Goes n a b
+-- A take of the port handed a message out, just the one that is last in hand now: its tag and body too.
+pub record Takes (n : Nucleus) (q : Ui) (a b : Session) : Type 0 where
+  pub got : PortMessage
+  pub settled : Option Settle
+  pub port : got.port ≡ q
+  pub call : IsCall n (Command.Take q) (pass_of a) (pass_of b) (Ok (Reply.Taken got.position got.message settled))
+  pub taken : taken_by b ≡ taken_by a ++ got ∷ []
 
--- a message of the port more, or what was there
-abbrev pub TakesOne : Ui → Result Bool CallFault → List PortMessage → List PortMessage → Type 0
-TakesOne q (Ok true) before after = (got : PortMessage) × (got.port ≡ q) × (after ≡ before ++ got ∷ [])
-TakesOne q (Ok false) before after = after ≡ before
-TakesOne q (Err f) before after = after ≡ before
+-- a take of the port was answered by this, and what was in hand is so still
+abbrev pub TakesNone : Nucleus → Ui → Result Reply CallFault → Session → Session → Type 0
+TakesNone n q r a b = IsCall n (Command.Take q) (pass_of a) (pass_of b) r × (taken_by b ≡ taken_by a)
+
+-- there was no room for one message more: nothing was asked
+pub record HasNoRoom (f : CallFault) (a b : Session) : Type 0 where
+  pub none : AllocError
+  pub is : f ≡ CallFault.Memory none
+  pub pass : pass_of b ≡ pass_of a
+  pub taken : taken_by b ≡ taken_by a
+
+-- The session asked the port for a message, by one take, and tells what that was answered.
+abbrev pub Asks : Nucleus → Ui → Result Asked CallFault → Session → Session → Type 0
+Asks n q (Ok Asked.Took) a b = Takes n q a b
+Asks n q (Ok Asked.Empty) a b = TakesNone n q (Ok Reply.Empty) a b
+Asks n q (Ok Asked.NotHere) a b = TakesNone n q (Ok Reply.NotHere) a b
+Asks n q (Err f) a b = TakesNone n q (Err f) a b ⊎ HasNoRoom f a b
+
+-- so it did, and tells whether it took a message
+abbrev pub TakesOne : Nucleus → Ui → Result Bool CallFault → Session → Session → Type 0
+TakesOne n q (Ok true) a b = Asks n q (Ok Asked.Took) a b
+TakesOne n q (Ok false) a b = Asks n q (Ok Asked.Empty) a b ⊎ Asks n q (Ok Asked.NotHere) a b
+TakesOne n q (Err f) a b = Asks n q (Err f) a b
 
 -- The pass is the one that draws numbers: so many besides its own, of which so many ended in it. It was handed out
 -- nothing.

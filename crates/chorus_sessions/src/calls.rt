@@ -6,17 +6,28 @@ ghost use Rattle.chorus_ui.specs.NameKind.{is_actor, is_port};
 ghost use Rattle.chorus_entry.specs.Command.{is_post, meets_conditions};
 ghost use Rattle.chorus_entry.specs.declared.dest.Dest.TheVariants as Dest;
 ghost use Rattle.chorus_entry.specs.declared.command.Command.TheVariants as Command;
-ghost use Rattle.chorus_nucleus.specs.Passes.{caller_of, IsPassOf};
+ghost use Rattle.chorus_nucleus.specs.Passes.{caller_of};
 ghost use Rattle.chorus_nucleus.specs.Calls.{IsCall, IsOutcome};
 ghost use Rattle.chorus_sessions.specs.Sessions.{pass_of, taken_by, takes, Asks, IsSession, TakesOne};
 
 use crate::hand::PortMessage;
 use crate::session::Session;
 use chorus_entry::{Command, Dest, MsgId};
-use chorus_nucleus::{CallFault, Nucleus, Pass};
+use chorus_nucleus::{CallFault, Nucleus};
 use chorus_place::Reply;
 use chorus_ui::Ui;
 use law_machine::Outcome;
+
+/// What a port answers to a session that asks it for a message.
+#[derive(Clone, Copy, Debug, PartialEq, Eq)]
+pub enum Asked {
+    /// A message was handed out.
+    Took,
+    /// The session's actor holds the port, and no message waits in it.
+    Empty,
+    /// The session's actor does not hold the port here.
+    NotHere,
+}
 
 impl Session {
     /// A call: gives any command but a take, by one turn at one place, as [`Nucleus::act`] does.
@@ -75,46 +86,49 @@ impl Session {
         nucleus.move_port(&mut self.pass, port, actor)
     }
 
-    /// Takes the first message that waits in the port, and keeps it, the last of [`Session::taken`]. False where no
-    /// message waits there, and where the session's actor does not hold the port. The faults are those of
-    /// [`Nucleus::take`]; nothing was taken then.
-    #[tactic(auto, using(crate::proofs::Steps::sessions))]
-    pub fn take(&mut self, nucleus: &Nucleus, port: Ui) -> Result<bool, CallFault>
+    /// Asks the port for its first message, by one take, and keeps what it is handed out, the last of [`Session::taken`].
+    /// The faults are those of [`Nucleus::take`], and `Memory` where there is no room for a message more; nothing was
+    /// taken then.
+    #[tactic(auto, using(crate::proofs::Steps::taking))]
+    pub fn ask(&mut self, nucleus: &Nucleus, port: Ui) -> Result<Asked, CallFault>
         requires session { IsSession nucleus.now self.old }
         requires port { is_port port ≡ true }
         ensures session { IsSession nucleus.now self.new }
-        ensures taken { TakesOne port result (taken_by self.old) (taken_by self.new) }
+        ensures asked { Asks nucleus.now port result self.old self.new }
     {
         if let Err(none) = self.hand.taken.reserve(1) {
             return Err(CallFault::Memory(none));
         }
-        match ask(nucleus, &mut self.pass, port) {
-            Ok(Some(got)) => {
-                self.hand.taken.push_reserved(got);
-                Ok(true)
+        match nucleus.take(&mut self.pass, port) {
+            Ok(Reply::Taken { pos, message, .. }) => {
+                self.hand.taken.push_reserved(PortMessage {
+                    port,
+                    position: pos,
+                    message,
+                });
+                Ok(Asked::Took)
             }
-            Ok(None) => Ok(false),
+            Ok(Reply::Empty) => Ok(Asked::Empty),
+            Ok(Reply::NotHere) => Ok(Asked::NotHere),
+            Ok(_) => unreachable!(),
             Err(fault) => Err(fault),
         }
     }
-}
 
-/// Asks for the first message of the port, for a take of a session.
-#[tactic(auto, using(crate::proofs::Steps::taking))]
-fn ask(nucleus: &Nucleus, pass: &mut Pass, port: Ui) -> Result<Option<PortMessage>, CallFault>
-    requires pass { IsPassOf nucleus.now pass.old }
-    requires port { is_port port ≡ true }
-    ensures { Asks nucleus.now port result pass.old pass.new }
-{
-    match nucleus.take(pass, port) {
-        Ok(Reply::Taken { pos, message, .. }) => Ok(Some(PortMessage {
-            port,
-            position: pos,
-            message,
-        })),
-        Ok(Reply::Empty) => Ok(None),
-        Ok(Reply::NotHere) => Ok(None),
-        Ok(_) => unreachable!(),
-        Err(fault) => Err(fault),
+    /// Takes the first message that waits in the port, and keeps it, the last of [`Session::taken`]. False where no
+    /// message waits there, and where the session's actor does not hold the port: [`Session::ask`] tells which. The
+    /// faults are those of `ask`.
+    pub fn take(&mut self, nucleus: &Nucleus, port: Ui) -> Result<bool, CallFault>
+        requires session { IsSession nucleus.now self.old }
+        requires port { is_port port ≡ true }
+        ensures session { IsSession nucleus.now self.new }
+        ensures taken { TakesOne nucleus.now port result self.old self.new }
+    {
+        match self.ask(nucleus, port) {
+            Ok(Asked::Took) => Ok(true),
+            Ok(Asked::Empty) => Ok(false),
+            Ok(Asked::NotHere) => Ok(false),
+            Err(fault) => Err(fault),
+        }
     }
 }

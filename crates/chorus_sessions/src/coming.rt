@@ -2,7 +2,7 @@
 
 ghost use Rattle.std.specs.Prelude.{◌≡◌, ◌≤◌, true, [], length, IfOk};
 ghost use Rattle.std.specs.Vec.{vec_capacity};
-ghost use Rattle.chorus_nucleus.specs.Passes.{known, IsPassOf};
+ghost use Rattle.chorus_nucleus.specs.Passes.{known, layout_of, IsPassOf};
 ghost use Rattle.chorus_sessions.specs.Hands.{AreKept};
 ghost use Rattle.chorus_sessions.specs.Sessions.{AreSessions, Draws, HasAllBack, IsKeeper, IsSession};
 
@@ -84,7 +84,8 @@ pub(crate) fn retire_all(
         × (length sessions.items ≤ vec_capacity hands.old) }
     ensures pass { IsPassOf nucleus.now pass.new }
     ensures back { HasAllBack pass.new }
-    ensures kept { AreKept (known pass.new).notes hands.new.items }
+    ensures kept { AreKept (layout_of nucleus.now) (known pass.new) (known pass.new).notes
+        hands.new.items }
 {
     while let Some(session) = sessions.pop() {
         let Session { pass: own, hand } = session;

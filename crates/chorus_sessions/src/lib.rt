@@ -20,6 +20,7 @@ mod session;
 mod setup;
 
 pub use behaviour::Behaviour;
+pub use calls::Asked;
 pub use fault::SessionsFault;
 pub use hand::{Hand, PortMessage};
 pub use pumping::Pumped;

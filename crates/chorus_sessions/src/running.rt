@@ -1,7 +1,7 @@
 //! Sessions are run.
 
 ghost use Rattle.std.specs.Prelude.{IfOk};
-ghost use Rattle.chorus_nucleus.specs.Passes.{known, IsPassOf};
+ghost use Rattle.chorus_nucleus.specs.Passes.{known, layout_of, IsPassOf};
 ghost use Rattle.chorus_nucleus.specs.Closing.{IsClosed};
 ghost use Rattle.chorus_net.specs.Closing.{past_of};
 ghost use Rattle.chorus_sessions.specs.Hands.{AreHandedOut, AreKept};
@@ -145,7 +145,8 @@ fn play<R: Threads + Wait + Sync, B: Behaviour>(
     requires keeper { IsKeeper 0 0 pass.old }
     ensures pass { IsPassOf nucleus.now pass.new }
     ensures back { HasAllBack pass.new }
-    ensures kept { IfOk result (λ hands. AreKept (known pass.new).notes hands.items) }
+    ensures kept { IfOk result (λ hands. AreKept (layout_of nucleus.now) (known pass.new)
+        (known pass.new).notes hands.items) }
 {
     make_ports(nucleus, pass, ports)?;
     let mut hands = Vec::with_capacity(alloc, behaviours.len())?;
