@@ -8,18 +8,27 @@ use Rattle.chorus_show.specs.declared.status.Status.{Status}
 use Rattle.chorus_show.specs.declared.status.Status.TheVariants.{Done, WriteFault}
 use Rattle.chorus_audit.specs.declared.judging.Audit.{Audit}
 use Rattle.chorus_audit.specs.Tests.{IsRead}
+use Rattle.judge_heads.specs.Heads.{layout_for, IsPlain}
 use Rattle.law_judge.specs.Open.{all_open}
 use Rattle.chorus_judge.specs.declared.judgement.Judgement.{Judgement}
 use Rattle.chorus_judge.specs.Judgements.{judgement_of}
 use Rattle.chorus_judge.specs.Texts.{judged_text}
 
--- what is read of the text, what it is judged to be by that, and the text that says it
-pub record IsJudged (l : Layout) (text : List ℕ) (judgement : Judgement) (told : List ℕ) : Type 0 where
+-- what is read of a text for a layout, what it is judged to be by that, and the text that says it
+pub record IsJudgedFor (l : Layout) (text : List ℕ) (judgement : Judgement) (told : List ℕ) : Type 0 where
   pub entries : List Entry
   pub audit : Audit
   pub read : IsRead l text audit entries
   pub judged : judgement ≡ judgement_of audit (all_open l (reverse entries))
-  pub is : told ≡ judged_text audit (all_open l (reverse entries))
+  pub is : told ≡ judged_text l audit (reverse entries)
+
+-- it is judged with the plain head, for the layout that is asked for, else for the one that its own head names, if it
+-- does
+pub record IsJudged (asked : Option Layout) (text : List ℕ) (judgement : Judgement) (told : List ℕ) : Type 0 where
+  pub named : Option Layout
+  pub plain : List ℕ
+  pub is_plain : IsPlain text named plain
+  pub judged : IsJudgedFor (layout_for asked named) plain judgement told
 
 -- where a journal was judged, all was done
 abbrev pub status_of : Result Judgement Status → Status
@@ -28,10 +37,11 @@ status_of (Err status) = status
 
 -- the sink took the text of the judgement on what the source had, a prefix of it at WriteFault, and nothing at any other
 -- status
-abbrev pub Judges : Layout → Result Judgement Status → Option (List ℕ) → Option (List ℕ) → Option (List ℕ) → Type 0
-Judges l (Ok judgement) input old new =
-    (told : List ℕ) × IfSome input (λ text. IsJudged l text judgement told) × Appends old new told
-Judges l (Err WriteFault) input old new =
-    (judgement : Judgement) × (told : List ℕ) × IfSome input (λ text. IsJudged l text judgement told)
+abbrev pub Judges : Option Layout → Result Judgement Status → Option (List ℕ) → Option (List ℕ) → Option (List ℕ)
+    → Type 0
+Judges asked (Ok judgement) input old new =
+    (told : List ℕ) × IfSome input (λ text. IsJudged asked text judgement told) × Appends old new told
+Judges asked (Err WriteFault) input old new =
+    (judgement : Judgement) × (told : List ℕ) × IfSome input (λ text. IsJudged asked text judgement told)
     × AppendsPrefix old new told
-Judges l (Err _) input old new = new ≡ old
+Judges asked (Err _) input old new = new ≡ old

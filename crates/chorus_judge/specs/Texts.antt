@@ -1,16 +1,23 @@
--- The text of a judgement: the line of an audit, how much is open, and a line for each thing that is, at most so many.
-use Rattle.std.specs.Prelude.{ℕ, List, [], ◌∷◌, ◌++◌, codes, decimal, length, take}
+-- The text of a judgement: the verdict, how much is open with a line for each thing that is, at most so many, and who sat
+-- where.
+use Rattle.std.specs.Prelude.{ℕ, List, [], ◌∷◌, ◌++◌, Option, Some, None, codes, decimal, length, take}
 use Rattle.std.specs.List.{flat_map}
+use Rattle.chorus_ui.specs.declared.layout.Layout.{Layout}
 use Rattle.chorus_ui.specs.Text.{name_text}
+use Rattle.chorus_entry.specs.declared.entry.Entry.{Entry}
 use Rattle.chorus_show.specs.Phrases.{id_text, phrase}
 use Rattle.chorus_show.specs.Journal.{count_line}
 use Rattle.chorus_audit.specs.declared.judging.Audit.{Audit}
+use Rattle.chorus_audit.specs.declared.judging.Audit.TheVariants.{Legal, Wrong}
 use Rattle.chorus_audit.specs.Output.{verdict_text}
 use Rattle.law_judge.specs.declared.open.Awaited.{Awaited}
 use Rattle.law_judge.specs.declared.open.Awaited.TheVariants.{Verdict, Choice, Told, Heard}
 use Rattle.law_judge.specs.declared.open.Open.{Open}
 use Rattle.law_judge.specs.declared.open.Open.TheVariants.{Message, Port, Reply}
 use Rattle.law_judge.specs.declared.open.OpenAt.{OpenAt}
+use Rattle.law_judge.specs.Open.{all_open}
+use Rattle.judge_seats.specs.declared.seating.SeatIn.{SeatIn}
+use Rattle.judge_seats.specs.Seats.{first_out, seats_in}
 use Rattle.chorus_judge.specs.declared.texts.TheConstants.{TOLD_LIMIT}
 
 -- what a message lacks
@@ -36,5 +43,22 @@ open_lines found = flat_map open_line found
 abbrev pub open_text : List OpenAt → List ℕ
 open_text found = count_line (codes "open") (length found) ++ open_lines (take TOLD_LIMIT found)
 
-abbrev pub judged_text : Audit → List OpenAt → List ℕ
-judged_text audit found = verdict_text audit ++ open_text found
+-- a caller, and the actor in which it was
+abbrev pub seat_line : SeatIn → List ℕ
+seat_line sat = phrase (codes "seat") (decimal sat.seat ∷ name_text sat.actor ∷ []) ++ 10 ∷ []
+
+abbrev pub seat_lines : List SeatIn → List ℕ
+seat_lines seats = flat_map seat_line seats
+
+abbrev pub legal_line : ℕ → ℕ → List ℕ
+legal_line n line = phrase (codes "legal") (decimal n ∷ codes "line" ∷ decimal line ∷ []) ++ 10 ∷ []
+
+-- of a lawful list of n entries: that it is a run, and who sat where; or the first line that no callers allow
+abbrev pub legal_text : ℕ → Option ℕ → List SeatIn → List OpenAt → List ℕ
+legal_text n None seats found = count_line (codes "run") n ++ open_text found ++ seat_lines seats
+legal_text n (Some line) seats found = legal_line n line ++ open_text found
+
+-- of what an audit finds, and the entries that it read, the newest first
+abbrev pub judged_text : Layout → Audit → List Entry → List ℕ
+judged_text l (Wrong line rule) past = verdict_text (Wrong line rule) ++ open_text (all_open l past)
+judged_text l (Legal n) past = legal_text n (first_out l past) (seats_in l past) (all_open l past)

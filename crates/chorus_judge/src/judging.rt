@@ -4,7 +4,7 @@ ghost use Rattle.std.specs.Prelude.{◌≡◌, ◌≢◌, ◌≤◌, ◌++◌, �
 ghost use Rattle.chorus_io.specs.Count.{Rose};
 ghost use Rattle.chorus_audit.specs.declared.limits.TheConstants.{AUDIT_LIMIT};
 ghost use Rattle.chorus_audit.specs.Output.{ReadsBy};
-ghost use Rattle.chorus_judge.specs.Output.{IsJudged, Judges, status_of};
+ghost use Rattle.chorus_judge.specs.Output.{IsJudged, IsJudgedFor, Judges, status_of};
 
 use crate::finding::open_entries;
 use crate::judgement::{Judgement, judgement_of};
@@ -14,14 +14,16 @@ use chorus_input::read_input;
 use chorus_io::{ReadAll, Sink, Source, write_all};
 use chorus_show::Status;
 use chorus_ui::Layout;
+use judge_heads::{layout_for, make_plain};
 use std::alloc::{AllocError, Global};
 
-/// Reads the source to its end, judges the journal that it gave, and writes what was found: the line that
-/// [`chorus_audit::audit`] writes, and what is open at the end of its entries, or of those in front of the line that is wrong. A
-/// text of more than [`AUDIT_LIMIT`] bytes is [`Status::TOO_LONG`]; no error is `Done`.
+/// Reads the source to its end, judges the journal that it gave, and writes what was found: whether it is lawful, and a run, what is
+/// open at the end of its entries, or of those in front of the line that is wrong, and who sat where. It is judged for the layout that
+/// is asked for; where none is, for the one that its head names, or 16 sites of one place each. A text of more than [`AUDIT_LIMIT`]
+/// bytes is [`Status::TOO_LONG`]; no error is `Done`.
 pub fn judge<S: Source, K: Sink>(
     alloc: Global,
-    layout: Layout,
+    asked: Option<Layout>,
     source: &mut S,
     sink: &mut K,
 ) -> Result<Judgement, Status>
@@ -35,17 +37,17 @@ pub fn judge<S: Source, K: Sink>(
     ensures reads { ReadsBy (status_of result) (S.left source.old) (S.left source.new) }
 
     // What it did.
-    ensures judges { Judges layout result (S.left source.old) (K.held sink.old) (K.held sink.new) }
+    ensures judges { Judges asked result (S.left source.old) (K.held sink.old) (K.held sink.new) }
     ensures unwritten { IfErr result (λ status.
         (status ≢ Status.Done) × (status ≢ Status.WriteFault → sink.new ≡ sink.old)) }
 {
-    let text = match read_input(alloc, source, AUDIT_LIMIT) {
+    let mut text = match read_input(alloc, source, AUDIT_LIMIT) {
         Ok(text) => text,
         Err(ReadAll::Fault) => return Err(Status::ReadFault),
         Err(ReadAll::TooLong) => return Err(Status::TOO_LONG),
         Err(ReadAll::Memory(_)) => return Err(Status::Memory),
     };
-    let Ok((judgement, told)) = judged(alloc, layout, &text) else {
+    let Ok((judgement, told)) = judged(alloc, asked, &mut text) else {
         return Err(Status::Memory);
     };
     match write_all(sink, &told) {
@@ -54,14 +56,37 @@ pub fn judge<S: Source, K: Sink>(
     }
 }
 
-/// What the text is judged to be, and the text that says it.
-fn judged(alloc: Global, layout: Layout, text: &[u8]) -> Result<(Judgement, Vec<u8>), AllocError>
+/// What the text is judged to be, and the text that says it. The text is made plain.
+fn judged(
+    alloc: Global,
+    asked: Option<Layout>,
+    text: &mut Vec<u8>,
+) -> Result<(Judgement, Vec<u8>), AllocError>
+    requires { length text.old.items ≤ AUDIT_LIMIT }
+    ensures { IfOk result (λ found. IsJudged asked text.old.items found.0 found.1.items) }
+{
+    let (named, start) = make_plain(text);
+    judged_for(alloc, layout_for(asked, named), &text[start..])
+}
+
+/// What the plain text is judged to be for the layout, and the text that says it.
+fn judged_for(
+    alloc: Global,
+    layout: Layout,
+    text: &[u8],
+) -> Result<(Judgement, Vec<u8>), AllocError>
     requires { length text.now ≤ AUDIT_LIMIT }
-    ensures { IfOk result (λ found. IsJudged layout text.now found.0 found.1.items) }
+    ensures { IfOk result (λ found. IsJudgedFor layout text.now found.0 found.1.items) }
 {
     let reading = read_text(alloc, layout, text)?;
     let opens = open_entries(alloc, layout, reading.world.ledger())?;
     let mut told = Vec::new(alloc);
-    push_judged(reading.audit, &opens, &mut told)?;
+    push_judged(
+        layout,
+        reading.audit,
+        reading.world.entries(),
+        &opens,
+        &mut told,
+    )?;
     Ok((judgement_of(reading.audit, &opens), told))
 }

@@ -1,28 +1,124 @@
 //! The text of a judgement.
 
-ghost use Rattle.std.specs.Prelude.{◌≡◌, ◌++◌, OnOk, take};
+ghost use Rattle.std.specs.Prelude.{◌≡◌, ◌++◌, ℕ, List, OnOk, Option, codes, reverse, take};
+ghost use Rattle.chorus_show.specs.Journal.{count_line};
+ghost use Rattle.chorus_audit.specs.Output.{verdict_text};
+ghost use Rattle.law_judge.specs.Open.{all_open};
+ghost use Rattle.judge_seats.specs.declared.seating.SeatIn.{SeatIn};
+ghost use Rattle.judge_seats.specs.Tables.{Tells};
 ghost use Rattle.chorus_judge.specs.declared.texts.TheConstants.{TOLD_LIMIT};
-ghost use Rattle.chorus_judge.specs.Texts.{awaited_word, judged_text, open_line, open_lines, open_text, thing_text};
+ghost use Rattle.chorus_judge.specs.Texts.{awaited_word, judged_text, legal_line, legal_text, open_line, open_lines, open_text, seat_line, seat_lines, thing_text};
 
 use chorus_audit::{Audit, push_verdict};
+use chorus_entry::Entry;
 use chorus_show::push_id;
-use chorus_ui::push_decimal;
+use chorus_ui::{Layout, push_decimal};
+use judge_seats::{SeatIn, Seating, seat_callers};
 use law_judge::{Awaited, Open, OpenAt};
 use std::alloc::AllocError;
 
 /// The most lines that tell what is open.
 pub const TOLD_LIMIT: usize = 100;
 
-/// Appends the text of a judgement: what an audit finds, and what is open. After an error a part of it may stand there.
+/// Appends the text of a judgement: what an audit finds, who sat where in the entries that it read, and what is open. After an
+/// error a part of it may stand there.
 pub(crate) fn push_judged(
+    layout: Layout,
     audit: Audit,
+    entries: &[Entry],
     opens: &[OpenAt],
     out: &mut Vec<u8>,
 ) -> Result<(), AllocError>
-    ensures { OnOk result (out.new.items ≡ out.old.items ++ judged_text audit opens.now) }
+    requires { opens.now ≡ all_open layout (reverse entries.now) }
+    ensures { OnOk result (out.new.items
+        ≡ out.old.items ++ judged_text layout audit (reverse entries.now)) }
+{
+    match audit {
+        Audit::Wrong { .. } => {
+            push_refused(audit, opens, out)?;
+            Ok(())
+        }
+        Audit::Legal { entries: count } => {
+            let seating = seat_callers(*out.allocator(), layout, entries)?;
+            push_legal(count, &seating, opens, out)
+        }
+    }
+}
+
+/// Appends the text of a journal that is judged to be wrong.
+fn push_refused(audit: Audit, opens: &[OpenAt], out: &mut Vec<u8>) -> Result<(), AllocError>
+    ensures { OnOk result (out.new.items
+        ≡ out.old.items ++ verdict_text audit ++ open_text opens.now) }
 {
     push_verdict(audit, out)?;
     push_opens(opens, out)
+}
+
+/// Appends the text of a lawful journal of so many entries that was judged.
+fn push_legal(
+    count: u32,
+    seating: &Seating,
+    opens: &[OpenAt],
+    out: &mut Vec<u8>,
+) -> Result<(), AllocError>
+    ensures { OnOk result ((out_at : Option ℕ) (seats : List SeatIn) → Tells out_at seats seating.now
+        → out.new.items ≡ out.old.items ++ legal_text count out_at seats opens.now) }
+{
+    match seating {
+        Seating::Run { seats } => {
+            push_run(count, out)?;
+            push_opens(opens, out)?;
+            push_seats(seats, out)
+        }
+        Seating::Out { line } => {
+            push_out(count, *line, out)?;
+            push_opens(opens, out)
+        }
+    }
+}
+
+/// Appends the verdict on a journal of so many entries that is judged to be a run.
+fn push_run(count: u32, out: &mut Vec<u8>) -> Result<(), AllocError>
+    ensures { OnOk result (out.new.items ≡ out.old.items ++ count_line (codes "run") count) }
+{
+    out.extend_from_slice(b"run ")?;
+    push_decimal(u64::from(count), out)?;
+    out.push(b'\n')?;
+    Ok(())
+}
+
+/// Appends the verdict on a lawful journal of so many entries that is judged to be no run from this line on.
+fn push_out(count: u32, line: u64, out: &mut Vec<u8>) -> Result<(), AllocError>
+    ensures { OnOk result (out.new.items ≡ out.old.items ++ legal_line count line) }
+{
+    out.extend_from_slice(b"legal ")?;
+    push_decimal(u64::from(count), out)?;
+    out.extend_from_slice(b" line ")?;
+    push_decimal(line, out)?;
+    out.push(b'\n')?;
+    Ok(())
+}
+
+/// Appends the callers of a journal that is judged to be a run, each with its actor.
+fn push_seats(seats: &[SeatIn], out: &mut Vec<u8>) -> Result<(), AllocError>
+    ensures { OnOk result (out.new.items ≡ out.old.items ++ seat_lines seats.now) }
+{
+    for sat in seats {
+        push_seat(sat, out)?;
+    }
+    Ok(())
+}
+
+/// Appends a caller of a judged journal with its actor.
+fn push_seat(sat: &SeatIn, out: &mut Vec<u8>) -> Result<(), AllocError>
+    ensures { OnOk result (out.new.items ≡ out.old.items ++ seat_line sat.now) }
+{
+    out.extend_from_slice(b"seat ")?;
+    push_decimal(u64::from(sat.seat), out)?;
+    out.push(b' ')?;
+    sat.actor.text(out)?;
+    out.push(b'\n')?;
+    Ok(())
 }
 
 /// Appends how much is open in a judged journal, and the lines of what is, at most so many.

@@ -28,7 +28,7 @@ fn judged(
     let layout = Layout::new(8, 1).expect(rt, "a layout");
     let mut source = source_of(rt, alloc, text, read);
     let mut sink = sink_of(rt, alloc, most, write);
-    let ended = judge(alloc, layout, &mut source, &mut sink);
+    let ended = judge(alloc, Some(layout), &mut source, &mut sink);
     let bytes = Vec::from_slice(alloc, sink.bytes()).expect(rt, "memory");
     let written = String::from_utf8(bytes).ok().expect(rt, "a text");
     Outcome { ended, written }
@@ -56,7 +56,7 @@ type Row = (&'static str, &'static str, Judgement, &'static str);
 
 /// Each row leaves something else open, or settles what the row before it left.
 const ROWS: [Row; 13] = [
-    ("nothing", "", Judgement::Quiet, "legal 0\nopen 0\n"),
+    ("nothing", "", Judgement::Quiet, "run 0\nopen 0\n"),
     (
         "a post that waits to be tried",
         "\
@@ -64,7 +64,13 @@ const ROWS: [Row; 13] = [
 2 1 1 post 1:1:0 port 2.p.1 plain =a
 ",
         Judgement::Open,
-        "legal 2\nopen 1\nline 3 message 1:1:0 without verdict\n",
+        "\
+run 2
+open 1
+line 3 message 1:1:0 without verdict
+seat 0 2.a.1
+seat 1 1.a.1
+",
     ),
     (
         "a try that is not decided, behind a post that is not tried",
@@ -76,10 +82,12 @@ const ROWS: [Row; 13] = [
 ",
         Judgement::Open,
         "\
-legal 4
+run 4
 open 2
 line 3 message 1:1:0 without verdict
 line 5 message 1:2:0 without verdict
+seat 0 2.a.1
+seat 1 1.a.1
 ",
     ),
     (
@@ -91,7 +99,13 @@ line 5 message 1:2:0 without verdict
 4 2 0 accept 1:1:0 2.p.1 0
 ",
         Judgement::Open,
-        "legal 4\nopen 1\nline 3 message 1:1:0 without told\n",
+        "\
+run 4
+open 1
+line 3 message 1:1:0 without told
+seat 0 2.a.1
+seat 1 1.a.1
+",
     ),
     (
         "and that is told",
@@ -103,7 +117,12 @@ line 5 message 1:2:0 without verdict
 5 1 0 told 1:1:0 accepted 0
 ",
         Judgement::Quiet,
-        "legal 5\nopen 0\n",
+        "\
+run 5
+open 0
+seat 0 2.a.1
+seat 1 1.a.1
+",
     ),
     (
         "a port on its second way, and a message that came too late for it",
@@ -119,10 +138,14 @@ line 5 message 1:2:0 without verdict
 ",
         Judgement::Open,
         "\
-legal 8
+run 8
 open 2
 line 5 port 1.p.1 without arrive
 line 6 message 3:1:0 without verdict
+seat 0 1.a.1
+seat 1 1.a.1
+seat 2 2.a.1
+seat 3 3.a.1
 ",
     ),
     (
@@ -134,7 +157,13 @@ line 6 message 3:1:0 without verdict
 4 1 1 post 1:1:0 all 2.g.1 plain =a
 ",
         Judgement::Open,
-        "legal 4\nopen 1\nline 5 message 1:1:0 without choose\n",
+        "\
+run 4
+open 1
+line 5 message 1:1:0 without choose
+seat 0 2.a.1
+seat 1 1.a.1
+",
     ),
     (
         "of which the members are chosen",
@@ -147,10 +176,12 @@ line 6 message 3:1:0 without verdict
 ",
         Judgement::Open,
         "\
-legal 5
+run 5
 open 2
 line 5 message 1:1:0 without heard
 line 6 message 1:1:1 without verdict
+seat 0 2.a.1
+seat 1 1.a.1
 ",
     ),
     (
@@ -165,7 +196,13 @@ line 6 message 1:1:1 without verdict
 7 1 0 heard 1:1:0 chosen 1
 ",
         Judgement::Open,
-        "legal 7\nopen 1\nline 6 message 1:1:1 without heard\n",
+        "\
+run 7
+open 1
+line 6 message 1:1:1 without heard
+seat 0 2.a.1
+seat 1 1.a.1
+",
     ),
     (
         "and of which all is heard",
@@ -180,7 +217,12 @@ line 6 message 1:1:1 without verdict
 8 1 0 heard 1:1:1 accepted 0
 ",
         Judgement::Quiet,
-        "legal 8\nopen 0\n",
+        "\
+run 8
+open 0
+seat 0 2.a.1
+seat 1 1.a.1
+",
     ),
     (
         "a reply that was taken",
@@ -195,7 +237,14 @@ line 6 message 1:1:1 without verdict
 8 1 1 take 1.p.2 0 2:1:0
 ",
         Judgement::Open,
-        "legal 8\nopen 1\nline 9 reply 2:1:0 without done\n",
+        "\
+run 8
+open 1
+line 9 reply 2:1:0 without done
+seat 0 1.a.1
+seat 1 1.a.2
+seat 2 1.a.1
+",
     ),
     (
         "behind which another act stands",
@@ -249,7 +298,7 @@ fn each_judgement_has_its_number(rt: HostRuntime) {
 fn tells_a_hundred(rt: HostRuntime) {
     let mut lines = String::new(rt.alloc());
     let mut told = String::new(rt.alloc());
-    writeln!(told, "legal 101\nopen 101").expect(&rt, "memory");
+    writeln!(told, "run 101\nopen 101").expect(&rt, "memory");
     for n in 1..=101u64 {
         writeln!(lines, "{n} 1 1 post 1:{n}:0 port 1.p.1 plain =").expect(&rt, "memory");
         if n <= 100 {
@@ -257,6 +306,7 @@ fn tells_a_hundred(rt: HostRuntime) {
             writeln!(told, "line {line} message 1:{n}:0 without verdict").expect(&rt, "memory");
         }
     }
+    writeln!(told, "seat 1 1.a.1").expect(&rt, "memory");
     let text = journal_of(&rt, rt.alloc(), lines.as_str());
     let found = judged(&rt, rt.alloc(), text.as_str(), 0, 1 << 16, 0);
     assert_eq!(&rt; found.written.as_str(), told.as_str());
@@ -273,5 +323,5 @@ fn reads_and_writes_fail(rt: HostRuntime) {
     }
     let found = judged(&rt, rt.alloc(), text.as_str(), 0, 1, 8);
     assert!(&rt; found.ended == Err(Status::WriteFault), "a write");
-    assert_eq!(&rt; found.written.as_str(), "legal 0", "a write");
+    assert_eq!(&rt; found.written.as_str(), "run 0\no", "a write");
 }

@@ -52,8 +52,13 @@ end
 ";
 
 /// What `judge` writes of it.
-pub(crate) const WHAT_IS_LEFT_OPEN: &str =
-    "legal 2\nopen 1\nline 3 message 1:1:0 without verdict\n";
+pub(crate) const WHAT_IS_LEFT_OPEN: &str = "\
+run 2
+open 1
+line 3 message 1:1:0 without verdict
+seat 0 2.a.1
+seat 1 1.a.1
+";
 
 /// What the program's word `judge` finds in journals, and the exit status with which it ends.
 #[test]
@@ -61,11 +66,16 @@ fn judgements_and_their_exit_status(rt: HostRuntime) {
     let alloc = rt.alloc();
     let moved = RETRY_ACROSS_A_MOVE_IS_ACCEPTED_ONCE.printed;
     let each: [(&[&str], &str, &str, u8); 5] = [
-        (&["judge"], moved, "legal 27\nopen 0\n", 0),
+        (
+            &["judge"],
+            moved,
+            "run 27\nopen 0\nseat 0 1.a.1\nseat 1 2.a.1\nseat 2 1.a.1\nseat 3 3.a.1\n",
+            0,
+        ),
         (
             &["judge", "16", "4"],
             MADE_AT_PLACE_61,
-            "legal 1\nopen 0\n",
+            "run 1\nopen 0\nseat 0 16.a.1\n",
             0,
         ),
         (

@@ -4,7 +4,12 @@ use Rattle.chorus_world.specs.Steps.{State}
 use Rattle.law_judge.specs.Open.{all_open}
 use Rattle.chorus_judge.specs.Judgements.{judgement_of}
 use Rattle.chorus_judge.specs.Texts.{judged_text}
-use Rattle.chorus_judge.proofs.judging.judged.Goals as goal
+use Rattle.chorus_judge.proofs.judging.judged_for.Goals as goal
+
+pub push_judged-requires : goal.push_judged-requires
+push_judged-requires c =
+    let all = all_open c.args.layout in
+    c.deref.ensures.value ∙ c.in_ok-opens.ensures ∙ ap (λ (w : State). all w.past) c.ledger.ensures ∙ ap all (sym (reverse-reverse c.in_ok-reading.reading.world.past) ∙ ap reverse (sym c.entries.ensures.value))
 
 pub returns : goal.returns
 returns c =
@@ -18,6 +23,5 @@ returns c =
       audit = audit;
       read = c.in_ok-reading.ensures;
       judged = c.judgement_of.ensures ∙ ap (judgement_of audit) (c.deref-2.ensures.value ∙ opens);
-      is =
-          c.in_ok-push_judged.ensures ∙ (λ i. c.new-told.ensures.items i ++ judged_text audit ((c.deref.ensures.value ∙ opens) i));
+      is = c.in_ok-push_judged.ensures ∙ (λ i. c.new-told.ensures.items i ++ judged_text c.args.layout audit (reverse (c.entries.ensures.value i)));
     }

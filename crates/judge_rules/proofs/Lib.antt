@@ -1,0 +1,4 @@
+pub mod Shapes
+pub mod Rules
+pub mod Finding
+pub mod Blaming

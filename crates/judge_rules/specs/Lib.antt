@@ -1,0 +1,5 @@
+pub mod About
+pub mod Terms
+pub mod Conditions
+pub mod Blames
+pub mod Laws

@@ -1,0 +1,4 @@
+pub mod Berths
+pub mod Seats
+pub mod Tables
+pub mod Laws
