@@ -21,7 +21,7 @@ use Rattle.chorus_replay.specs.Ends.{EndsAsLoad, EndsAsReplay}
 use Rattle.chorus_replay.specs.Load.{Loads}
 use Rattle.chorus_replay.specs.Ordered.{Replays}
 use Rattle.chorus_run.specs.Ends.{EndsAsRun}
-use Rattle.chorus_run.specs.Threads.{HasWornOf, IsOfNucleus}
+use Rattle.chorus_run.specs.Threads.{HasAllPerformed, HasWornOf, IsOfNucleus}
 use Rattle.chorus_audit.specs.Output.{Prints, ReadsBy}
 use Rattle.chorus_judge.specs.declared.judgement.Judgement.{Judgement}
 use Rattle.chorus_check.specs.declared.checked.Checked.{Checked}
@@ -85,11 +85,11 @@ causes-explored most f left faults reliable from rest held failures old new h = 
 
 -- A judgement.
 
-pub judged-none : (l : Layout) (f : Finished) → f ≡ record { status = Memory; closed = None } → (left old : Option (List ℕ)) → EndsAsJudge l (Err Memory) f left left old old
-judged-none l f is left old = record { is = is; reads = ([], (Consumes-nil left, omega arith)); judges = refl }
+pub judged-none : (asked : Option Layout) (f : Finished) → f ≡ record { status = Memory; closed = None } → (left old : Option (List ℕ)) → EndsAsJudge asked (Err Memory) f left left old old
+judged-none asked f is left old = record { is = is; reads = ([], (Consumes-nil left, omega arith)); judges = refl }
 
-pub judged-no-usage : (l : Layout) (given : Result Judgement Status) (f : Finished) (left rest old new : Option (List ℕ)) → EndsAsJudge l given f left rest old new → f.status ≡ Status.Usage → ⊥
-judged-no-usage l given f left rest old new h is = subst (λ (s : Status). ReadsBy s left rest) (sym (ap (λ (x : Finished). x.status) h.is) ∙ is) h.reads
+pub judged-no-usage : (asked : Option Layout) (given : Result Judgement Status) (f : Finished) (left rest old new : Option (List ℕ)) → EndsAsJudge asked given f left rest old new → f.status ≡ Status.Usage → ⊥
+judged-no-usage asked given f left rest old new h is = subst (λ (s : Status). ReadsBy s left rest) (sym (ap (λ (x : Finished). x.status) h.is) ∙ is) h.reads
 
 -- Where there was no memory, nothing was read or written.
 
@@ -134,6 +134,7 @@ module _ {S K : Type 0} (f : Finished) (is : f ≡ record { status = Memory; clo
     reads = reads-none (layout_of n);
     writes = writes-none f is held failures old (text_of f.closed);
     runs = none-closed Memory f (Runs (layout_of n) (left from)) is;
+    performs = none-closed Memory f (HasAllPerformed n (left from)) is;
     origin = none-closed Memory f (λ s. IsOfNucleus n) is;
     worn = none-closed Memory f HasWornOf is;
   }
@@ -188,8 +189,8 @@ module _ {S K : Type 0} (f : Finished) (is : f ≡ record { status = Memory; clo
   one-thread-none (words.Audit sites turns) same = audits-none (places_each sites turns)
   one-thread-none words.Check same = (Err Memory, checked-none CHECK_MOST)
   one-thread-none (words.CheckMost most) same = (Err Memory, checked-none most)
-  one-thread-none words.Judge same = (Err Memory, judged-none replay_layout f is (left from) (held old))
-  one-thread-none (words.JudgeFor sites turns) same = (Err Memory, judged-none (places_each sites turns) f is (left from) (held old))
+  one-thread-none words.Judge same = (Err Memory, judged-none None f is (left from) (held old))
+  one-thread-none (words.JudgeFor sites turns) same = (Err Memory, judged-none (Some (places_each sites turns)) f is (left from) (held old))
   one-thread-none (words.Picture sites turns) same = draws-none (places_each sites turns)
   one-thread-none (words.Lossy first) same = carries-none first
   one-thread-none (words.Crew first commands) same = cc
@@ -237,8 +238,8 @@ module _ {S K : Type 0} (f : Finished) (left : S → Option (List ℕ)) (faults 
   no-usage-on-one (words.Audit sites turns) d is = subst (λ s. ReadsBy s (left from) (left rest)) is d.reads
   no-usage-on-one words.Check d is = checked-no-usage CHECK_MOST d.0 d.1 is
   no-usage-on-one (words.CheckMost most) d is = checked-no-usage most d.0 d.1 is
-  no-usage-on-one words.Judge d is = judged-no-usage replay_layout d.0 f (left from) (left rest) (held old) (held new) d.1 is
-  no-usage-on-one (words.JudgeFor sites turns) d is = judged-no-usage (places_each sites turns) d.0 f (left from) (left rest) (held old) (held new) d.1 is
+  no-usage-on-one words.Judge d is = judged-no-usage None d.0 f (left from) (left rest) (held old) (held new) d.1 is
+  no-usage-on-one (words.JudgeFor sites turns) d is = judged-no-usage (Some (places_each sites turns)) d.0 f (left from) (left rest) (held old) (held new) d.1 is
   no-usage-on-one (words.Picture sites turns) d is = subst (λ s. picture.ReadsBy (places_each sites turns) s (left from) (left rest)) is d.reads
   no-usage-on-one (words.Crew first commands) d is = d
   no-usage-on-one words.Explore d is = d.explores.reads.usage is

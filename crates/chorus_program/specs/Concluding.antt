@@ -21,14 +21,14 @@ use Rattle.chorus_program.specs.declared.conclusion.Verdict.{Verdict}
 use Rattle.chorus_program.specs.declared.conclusion.Verdict.TheVariants as verdicts
 use Rattle.chorus_program.specs.declared.inquiries.Inquiry.{Inquiry}
 use Rattle.chorus_program.specs.declared.inquiries.Inquiry.TheVariants.{Judge, Check}
-use Rattle.chorus_program.specs.Running.{places_each, replay_layout, Does, EndsAsChecked, EndsAsJudge}
+use Rattle.chorus_program.specs.Running.{places_each, Does, EndsAsChecked, EndsAsJudge}
 use Rattle.chorus_program.specs.Started.{DoesOnOwn}
 
--- what is asked about a text: what a journal is, for a layout; or what is so of a scenario's claims. All other words ask
+-- what is asked about a text: what a journal is, for a layout or for the one that it names; or what is so of a scenario's claims. All other words ask
 -- nothing
 abbrev pub inquiry_in : Words → Option Inquiry
-inquiry_in words.Judge = Some (Judge replay_layout)
-inquiry_in (words.JudgeFor sites turns) = Some (Judge (places_each sites turns))
+inquiry_in words.Judge = Some (Judge None)
+inquiry_in (words.JudgeFor sites turns) = Some (Judge (Some (places_each sites turns)))
 inquiry_in words.Check = Some (Check CHECK_MOST)
 inquiry_in (words.CheckMost most) = Some (Check most)
 inquiry_in asked = None
@@ -48,11 +48,11 @@ checked_in (Ok checked) = Some (verdicts.Checked checked)
 checked_in (Err status) = None
 
 -- this was found of the journal that was read, and it is what the journal was judged to be
-pub record ConcludesAsJudge (l : Layout) (conclusion : Conclusion)
+pub record ConcludesAsJudge (asked : Option Layout) (conclusion : Conclusion)
     (left rest old new : Option (List ℕ)) : Type 0 where
   pub given : Result Judgement Status
   pub verdict : conclusion.verdict ≡ judged_in given
-  pub ends : EndsAsJudge l given conclusion.finished left rest old new
+  pub ends : EndsAsJudge asked given conclusion.finished left rest old new
 
 -- this was found of the claims of the scenario that was read, and it is what the check came to
 pub record ConcludesAsCheck {S K : Type 0} (most : ℕ) (conclusion : Conclusion)
@@ -65,8 +65,8 @@ pub record ConcludesAsCheck {S K : Type 0} (most : ℕ) (conclusion : Conclusion
 abbrev pub Answers : {S K : Type 0} → Inquiry → Conclusion
     → (S → Option (List ℕ)) → (S → ℕ) → (S → Type 0) → S → S
     → (K → Option (List ℕ)) → (K → ℕ) → K → K → Type 0
-Answers (Judge l) conclusion left faults reliable from rest held failures old new =
-    ConcludesAsJudge l conclusion (left from) (left rest) (held old) (held new)
+Answers (Judge asked) conclusion left faults reliable from rest held failures old new =
+    ConcludesAsJudge asked conclusion (left from) (left rest) (held old) (held new)
 Answers (Check most) conclusion left faults reliable from rest held failures old new =
     ConcludesAsCheck most conclusion left faults reliable from rest held failures old new
 

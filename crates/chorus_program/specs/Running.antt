@@ -70,11 +70,11 @@ pub record EndsAsAudit (l : Layout) (finished : Finished) (left rest old new : O
   pub prints : Prints l finished.status left old new
 
 -- nothing was closed, this was found of the journal that was read, and the text that says it was written
-pub record EndsAsJudge (l : Layout) (given : Result Judgement Status) (finished : Finished)
+pub record EndsAsJudge (asked : Option Layout) (given : Result Judgement Status) (finished : Finished)
     (left rest old new : Option (List ℕ)) : Type 0 where
   pub is : finished ≡ record { status = status_of given; closed = None }
   pub reads : ReadsBy (status_of given) left rest
-  pub judges : Judges l given left old new
+  pub judges : Judges asked given left old new
 
 -- nothing was closed, and the picture of what was read was written
 pub record EndsAsPicture (l : Layout) (finished : Finished) (left rest old new : Option (List ℕ)) : Type 0 where
@@ -131,10 +131,10 @@ DoesOnOneThread (words.Audit sites turns) finished left faults reliable from res
     EndsAsAudit (places_each sites turns) finished (left from) (left rest) (held old) (held new)
 DoesOnOneThread words.Judge finished left faults reliable from rest held failures old new =
     (given : Result Judgement Status)
-    × EndsAsJudge replay_layout given finished (left from) (left rest) (held old) (held new)
+    × EndsAsJudge None given finished (left from) (left rest) (held old) (held new)
 DoesOnOneThread (words.JudgeFor sites turns) finished left faults reliable from rest held failures old new =
     (given : Result Judgement Status)
-    × EndsAsJudge (places_each sites turns) given finished (left from) (left rest) (held old) (held new)
+    × EndsAsJudge (Some (places_each sites turns)) given finished (left from) (left rest) (held old) (held new)
 DoesOnOneThread (words.Picture sites turns) finished left faults reliable from rest held failures old new =
     EndsAsPicture (places_each sites turns) finished (left from) (left rest) (held old) (held new)
 DoesOnOneThread (words.Lossy first) finished left faults reliable from rest held failures old new =

@@ -21,8 +21,8 @@ use std::alloc::Global;
 /// What is asked about a text.
 #[derive(Clone, Copy)]
 pub(crate) enum Inquiry {
-    /// What a journal is, for this layout.
-    Judge { layout: Layout },
+    /// What a journal is, for this layout, or where none is asked for, for the one that it names.
+    Judge { asked: Option<Layout> },
     /// What is so of the claims of a scenario, with at most so many events carried out.
     Check { most: u32 },
 }
@@ -33,11 +33,9 @@ pub(crate) fn inquiry_in(asked: Words) -> Option<Inquiry>
     ensures { result ≡ inquiry_in asked }
 {
     match asked {
-        Words::Judge => Some(Inquiry::Judge {
-            layout: Layout::new(PROGRAM_SITES, 1).unwrap(),
-        }),
+        Words::Judge => Some(Inquiry::Judge { asked: None }),
         Words::JudgeFor { sites, turns } => Some(Inquiry::Judge {
-            layout: Layout::new(sites, turns).unwrap(),
+            asked: Some(Layout::new(sites, turns).unwrap()),
         }),
         Words::Check => Some(Inquiry::Check { most: CHECK_MOST }),
         Words::CheckMost { most } => Some(Inquiry::Check { most }),
@@ -58,24 +56,24 @@ pub(crate) fn answer<S: Source, K: Sink>(
         K.faults sink.old sink.new }
 {
     match inquiry {
-        Inquiry::Judge { layout } => judge_for(alloc, layout, source, sink),
+        Inquiry::Judge { asked } => judge_for(alloc, asked, source, sink),
         Inquiry::Check { most } => check_for(alloc, most, source, sink),
     }
 }
 
-/// Does the program's word `judge`: judges what the source gives, for this layout.
+/// Does the program's word `judge`: judges what the source gives, for this layout, or for the one that it names.
 fn judge_for<S: Source, K: Sink>(
     alloc: Global,
-    layout: Layout,
+    asked: Option<Layout>,
     source: &mut S,
     sink: &mut K,
 ) -> Conclusion
-    ensures judges { ConcludesAsJudge layout result
+    ensures judges { ConcludesAsJudge asked result
         (S.left source.old) (S.left source.new) (K.held sink.old) (K.held sink.new) }
     ensures causes { EndsWithCause result.finished S.faults S.reliable source.old source.new
         K.faults sink.old sink.new }
 {
-    judged(judge(alloc, layout, source, sink))
+    judged(judge(alloc, asked, source, sink))
 }
 
 /// Does the program's word `check`: checks the claims of the scenario that the source gives, with at most so many events carried out.

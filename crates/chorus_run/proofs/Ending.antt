@@ -19,12 +19,13 @@ use Rattle.chorus_perform.specs.declared.stopped.Stopped.{Stopped}
 use Rattle.chorus_perform.specs.declared.stopped.Stopped.TheVariants as stops
 use Rattle.chorus_nucleus.specs.Rounds.{IsEven}
 use Rattle.chorus_perform.specs.Scripts.{HasPerformed}
+use Rattle.chorus_replay.specs.Laws.{worn_clock}
 use Rattle.chorus_report.specs.declared.played.Played.{Played}
 use Rattle.chorus_report.specs.Reading.{IsGiven}
 use Rattle.chorus_report.specs.Headline.{AreWithinUnless, HasClock, Plays, Runs, callers_of, commands_by}
 use Rattle.chorus_report.specs.Ending.{EndsFor, HasWorn, IsFinished}
 use Rattle.chorus_report.proofs.Ends.{finished-so}
-use Rattle.chorus_run.specs.Threads.{HasWornOf, IsOfNucleus, IsPlayedOn, StopsAt}
+use Rattle.chorus_run.specs.Threads.{HasAllPerformed, HasWornOf, IsAllPerformed, IsOfNucleus, IsPlayedOn, StopsAt}
 use Rattle.chorus_run.proofs.Owning.{is-of-nucleus}
 use Rattle.chorus_run.proofs.Playing.{plays-first, plays-done, plays-write}
 
@@ -55,6 +56,7 @@ plays-all n c v closed same keeps performed even h =
     record {
       plays = (done, plays-write c shape keeps true (known v) performed closed closes refl even');
       origin = is-of-nucleus n v closed h performed.seat performed.first;
+      all = record { last = v; closes = h; performed = λ none. performed };
       high = λ clock is. no-clock clock is;
       entry = λ clock is. no-clock clock is;
       of_pass = λ clock is. no-clock clock is;
@@ -73,6 +75,7 @@ played-worn n c v closed clock same keeps performed h high entry worn =
     record {
       plays = first;
       origin = is-of-nucleus n v closed h performed.seat performed.first;
+      all = record { last = v; closes = h; performed = λ none. absurd (cc) };
       high = λ k is. subst (λ m. CLOCK_LIMIT ≤ m) (some-is clock k is) high;
       entry = λ k is. subst (λ m. HasClock m (merge_of closed)) (some-is clock k is) entry;
       of_pass = λ k is. closed-worn n v closed h ∙ worn ∙ is;
@@ -102,6 +105,18 @@ module _ (n : Nucleus) (c : Scene) (r : Result Played AllocError) (s : Status) (
 
   pub origin-so : (o : Option Closed) → IfSome o (IsFinished r s) → IfSome o (IsOfNucleus n)
   origin-so o f = finished-so (λ s closed. IsOfNucleus n closed) r s o (each (λ s closed. IsOfNucleus n closed) origin-for r played) f
+
+  all-for : (worn : Option ℕ) (closed : Closed) → IsPlayedOn n c worn closed → EndsFor (λ s closed. IsAllPerformed n c (worn_clock s) closed) worn closed
+  all-for None closed h = (h.all, h.all)
+  all-for (Some clock) closed h = h.all
+
+  pub performs-so : (told : Option (List ℕ)) (o : Option Closed) → IsGiven (layout_of n) told (Ok c) → IfSome o (IsFinished r s) → IfSome o (HasAllPerformed n told s)
+  performs-so told o given f =
+      by o (finished-so (λ s closed. IsAllPerformed n c (worn_clock s) closed) r s o (each (λ s closed. IsAllPerformed n c (worn_clock s) closed) all-for r played) f)
+    where
+      by : (o : Option Closed) → IfSome o (IsAllPerformed n c (worn_clock s)) → IfSome o (HasAllPerformed n told s)
+      by None all = tt
+      by (Some closed) all = record { scene = c; given = given; all = all }
 
   worn-for : (worn : Option ℕ) (closed : Closed) → IsPlayedOn n c worn closed → EndsFor HasWornOf worn closed
   worn-for None closed h = (λ clock is. absurd (cc), λ clock is. absurd (cc))

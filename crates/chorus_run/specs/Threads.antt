@@ -1,6 +1,6 @@
 -- What was performed on a nucleus and closed.
 -- n is the nucleus, c a scenario.
-use Rattle.std.specs.Prelude.{ℕ, ◌≡◌, ◌≤◌, ◌+◌, List, Option, Some, slice_get}
+use Rattle.std.specs.Prelude.{ℕ, ◌≡◌, ◌≤◌, ◌+◌, true, List, Option, Some, None, Ok, slice_get}
 use Rattle.std.specs.List.{All}
 use Rattle.chorus_ui.specs.declared.limits.TheConstants.{CLOCK_LIMIT}
 use Rattle.chorus_ui.specs.Layout.{places}
@@ -20,10 +20,12 @@ use Rattle.chorus_nucleus.specs.declared.nucleus.Nucleus.{Nucleus}
 use Rattle.chorus_nucleus.specs.declared.pass.Pass.{Pass}
 use Rattle.chorus_nucleus.specs.Passes.{known, layout_of}
 use Rattle.chorus_nucleus.specs.Closing.{IsClosed}
-use Rattle.chorus_perform.specs.Scripts.{IsSetUpFirst}
+use Rattle.chorus_perform.specs.Scripts.{HasPerformed, IsSetUpFirst}
 use Rattle.chorus_perform.specs.declared.stopped.Stopped.{Stopped}
 use Rattle.chorus_perform.specs.declared.stopped.Stopped.TheVariants as stops
 use Rattle.chorus_report.specs.declared.played.Played.{Played}
+use Rattle.chorus_replay.specs.Laws.{worn_clock}
+use Rattle.chorus_report.specs.Reading.{IsGiven}
 use Rattle.chorus_report.specs.Headline.{HasClock, Plays, callers_of, commands_by}
 use Rattle.chorus_report.specs.Ending.{EndsFor}
 
@@ -57,11 +59,24 @@ pub record IsOfNucleus (n : Nucleus) (closed : Closed) : Type 0 where
 abbrev pub HasWornOf : Status → Closed → Type 0
 HasWornOf status closed = (clock : ℕ) → status ≡ Worn clock → worn_of closed ≡ Some clock
 
+-- It is this nucleus that was closed, by a pass that had all of the scenario performed, unless a clock was worn.
+pub record IsAllPerformed (n : Nucleus) (c : Scene) (worn : Option ℕ) (closed : Closed) : Type 0 where
+  pub last : Pass
+  pub closes : IsClosed n last closed
+  pub performed : worn ≡ None → HasPerformed true c (known last)
+
+-- There is a scenario that the source gives, of which that is so.
+pub record HasAllPerformed (n : Nucleus) (told : Option (List ℕ)) (status : Status) (closed : Closed) : Type 0 where
+  pub scene : Scene
+  pub given : IsGiven (layout_of n) told (Ok scene)
+  pub all : IsAllPerformed n scene (worn_clock status) closed
+
 -- The scenario was performed on the nucleus, which was then closed: it plays the scenario to its end where no clock was
 -- worn, else up to that clock, which is at least 2^62 and that of an entry and of the closing pass.
 pub record IsPlayedOn (n : Nucleus) (c : Scene) (worn : Option ℕ) (closed : Closed) : Type 0 where
   pub plays : EndsFor (Plays c.layout (callers_of c) (commands_by c)) worn closed
   pub origin : IsOfNucleus n closed
+  pub all : IsAllPerformed n c worn closed
   pub high : (clock : ℕ) → worn ≡ Some clock → CLOCK_LIMIT ≤ clock
   pub entry : (clock : ℕ) → worn ≡ Some clock → HasClock clock (merge_of closed)
   pub of_pass : (clock : ℕ) → worn ≡ Some clock → worn_of closed ≡ Some clock

@@ -1,5 +1,5 @@
 mod Lists
-mod Merges
+pub mod Merges
 mod Leads
 mod Turns
 mod Quiet

@@ -1,0 +1,14 @@
+mod Owning
+mod Told
+mod Silent
+mod Counting
+mod Held
+mod Reading
+pub mod Replaying
+mod Texts
+mod Anybody
+mod Following
+pub mod Beginning
+pub mod Playing
+mod Examples
+mod Facts

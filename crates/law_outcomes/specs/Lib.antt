@@ -1,0 +1,5 @@
+pub mod Closed
+pub mod Replays
+pub mod Texts
+pub mod Anybody
+pub mod Facts

@@ -1,0 +1,60 @@
+-- What a run on threads comes to.
+-- c is a scenario, most is how many events may be carried out, text is what is told, k is a claim, n is a nucleus, input and
+-- other are the bytes of two texts.
+use Rattle.std.specs.Prelude.{ℕ, ◌≡◌, true, List, [], Option, Some, None}
+use Rattle.std.specs.List.{Contains}
+use Rattle.chorus_ui.specs.Layout.{IsLayout}
+use Rattle.chorus_claims.specs.Pieces.{Claim, meets}
+use Rattle.chorus_turn.specs.declared.knowledge.Knowledge.{Knowledge}
+use Rattle.law_closing.specs.Places.{PlaceNote}
+use Rattle.chorus_scene.specs.Limits.{Keeps}
+use Rattle.chorus_scene.specs.Scene.{Scene}
+use Rattle.chorus_net.specs.declared.closed.Closed.{Closed}
+use Rattle.chorus_nucleus.specs.Closing.{ClosesFor}
+use Rattle.chorus_nucleus.specs.Passes.{layout_of}
+use Rattle.chorus_nucleus.specs.declared.nucleus.Nucleus.{Nucleus}
+use Rattle.chorus_perform.specs.Scripts.{HasPerformed}
+use Rattle.chorus_replay.specs.Laws.{worn_clock}
+use Rattle.chorus_run.specs.Threads.{HasAllPerformed}
+use Rattle.chorus_show.specs.declared.status.Status.{Status}
+use Rattle.chorus_show.specs.declared.status.Status.TheVariants.{Done}
+use Rattle.chorus_explore.specs.Checked.{Holds, Judged}
+use Rattle.chorus_explore.specs.Ends.{Tells}
+use Rattle.chorus_explore.specs.Explored.{IsExploration}
+use Rattle.law_outcomes.specs.Closed.{IsOfWhole, moves_read, outcome_of_closed}
+use Rattle.law_outcomes.specs.Replays.{AllAreFound, texts_in}
+
+-- All commands of the scenario were performed on a nucleus, whichever threads gave them and worked packets off, and it
+-- was closed with no packet left; known is what the pass knew that closed it.
+pub record IsRun (c : Scene) (closed : Closed) : Type 0 where
+  pub known : Knowledge PlaceNote
+  pub performed : HasPerformed true c known
+  pub closes : ClosesFor c.layout known closed
+  pub rest : closed.rest.items ≡ []
+
+-- So it comes to what a whole history comes to.
+abbrev pub RunsAreHistories : Type 0
+RunsAreHistories = (c : Scene) (closed : Closed) → IsLayout c.layout → Keeps c → IsRun c closed → IsOfWhole c closed
+
+-- Where `explore` tells of all, the lines of every run are among those that it tells; where it tells of `some N`, those
+-- of every run of fewer than N moves.
+abbrev pub RunsAreAmongOutcomes : Type 0
+RunsAreAmongOutcomes =
+    (c : Scene) (most : ℕ) (text : List ℕ) (closed : Closed) → IsLayout c.layout → Keeps c →
+    (told : IsExploration c most text) → IsRun c closed → AllAreFound told.explored (moves_read c closed) →
+    Contains (texts_in told.explored) (outcome_of_closed c closed)
+
+-- And a claim that holds is met by every run.
+abbrev pub RunsMeetClaims : Type 0
+RunsMeetClaims =
+    (c : Scene) (k : Claim) (closed : Closed) → IsLayout c.layout → Keeps c → Judged c k Holds → IsRun c closed →
+    meets k (outcome_of_closed c closed) ≡ true
+
+-- From bytes to bytes: where `explore` is done with one text, and `run` with one that says the same but for its schedule.
+abbrev pub RunTextsAreAmongOutcomes : Type 0
+RunTextsAreAmongOutcomes =
+    (n : Nucleus) (most : ℕ) (input other : List ℕ) (old new : Option (List ℕ)) (status : Status) (closed : Closed) →
+    (told : Tells (layout_of n) most Done (Some input) old new) → (run : HasAllPerformed n (Some other) status closed) →
+    run.scene ≡ record told.scene { schedule = run.scene.schedule } → worn_clock status ≡ None →
+    closed.rest.items ≡ [] → AllAreFound told.explored.explored (moves_read told.scene closed) →
+    Contains (texts_in told.explored.explored) (outcome_of_closed told.scene closed)

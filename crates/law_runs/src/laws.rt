@@ -1,0 +1,17 @@
+//! What runs come to. The laws speak of the definitions alone and make no call.
+
+ghost use Rattle.law_runs.specs.Runs.{RunTextsAreAmongOutcomes, RunsAreAmongOutcomes, RunsAreHistories, RunsMeetClaims};
+
+/// Where all commands of a scenario were performed on a nucleus that was then closed with no packet left, a reader finds in it the lines of
+/// a whole history of the scenario's race, whoever delivered.
+pub fn runs_are_histories()
+    ensures { RunsAreHistories }
+{}
+
+/// So its lines are among those that an exploration of all tells (`told`), and it meets each claim that holds (`claims`); and so it is of
+/// two texts that say the same but for their schedules, one that is explored and one that is run (`texts`).
+pub fn runs_are_among_outcomes()
+    ensures told { RunsAreAmongOutcomes }
+    ensures claims { RunsMeetClaims }
+    ensures texts { RunTextsAreAmongOutcomes }
+{}
