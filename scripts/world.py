@@ -30,7 +30,7 @@ def entries_of(journal):
     """The lines of the entries that stand in a journal text."""
     lines = journal.split("\n")
     head = lines[0].split(" ")
-    count = int(head[1]) if len(head) == 2 and head[0] == "journal" and head[1].isdigit() else 0
+    count = int(head[1]) if len(head) in (2, 4) and head[0] == "journal" and head[1].isdigit() else 0
     return lines[1 : 1 + count]
 
 
