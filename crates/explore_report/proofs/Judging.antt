@@ -1,6 +1,6 @@
 -- Histories more are judged, that come to one text.
 -- claims are judged one after the other, so many so far.
-use Rattle.std.proofs.Common.{ℕ, zero, suc, ◌≡◌, ◌≢◌, ◌+◌, ◌<◌, ◌≤◌, Bool, true, false, List, [], ◌∷◌, ◌++◌, length, reverse, get_or, set, Some, slice_get, ◌⊎◌, inl, inr, refl, sym, ◌∙◌, ap, subst, arith}
+use Rattle.std.proofs.Common.{ℕ, zero, suc, ◌≡◌, ◌≢◌, ◌+◌, ◌<◌, ◌≤◌, Bool, true, false, not, ◌&&◌, cond, List, [], ◌∷◌, ◌++◌, length, reverse, get_or, set, Some, slice_get, ◌⊎◌, inl, inr, refl, sym, ◌∙◌, ap, subst, arith}
 use Rattle.std.specs.List.{All, Contains}
 use Rattle.std.proofs.lemmas.Bool.{cases_lt, false≢true}
 use Rattle.std.proofs.lemmas.List.{length-set}
@@ -10,7 +10,7 @@ use Rattle.chorus_claims.specs.Pieces.{Claim, meets}
 use Rattle.explore_report.specs.declared.judgements.Judgement.{Judgement}
 use Rattle.explore_report.specs.declared.judgements.Judgement.TheVariants.{Met, Failed}
 use Rattle.explore_report.specs.Findings.{AreLater, ComeTo}
-use Rattle.explore_report.specs.Judgements.{AreJudged, FailsFirst, IsJudged, Judges, JudgesAll, has_failed}
+use Rattle.explore_report.specs.Judgements.{AreJudged, FailsFirst, IsJudged, Judges, JudgesAll, JudgesAt, has_failed}
 
 module _ (comes : List Move → List ℕ) (hs ks : List (List Move)) (k : Claim) (text : List ℕ) (h : List Move) (told : ℕ) (is : ComeTo comes text h told ks) (later : AreLater hs ks) where
   abbrev IsMet : List Move → Type 0
@@ -69,6 +69,57 @@ module _ (k : Claim) (text : List ℕ) (h : List Move) where
   comes-to-fail j no_ e ms lines at same comes hs ks told is later was =
       now-fails comes hs ks k text h told is later e (met-before comes hs ks k text h told is later j no_ was) ms lines at same
 
+-- At a moment, of which the claim is asked.
+module _ (k : Claim) (text : List ℕ) (h : List Move) (old new : Judgement) where
+  pub at-end : Judges k text h old new → JudgesAt true k text h old new
+  at-end judges comes moments ends ks told is later later-ends was = by k.throughout was
+    where
+      by : (b : Bool) → IsJudged comes (cond b moments ends) k old → IsJudged comes (cond b (moments ++ ks) (ends ++ ks)) k new
+      by true w = judges comes moments ks told is later w
+      by false w = judges comes ends ks told is later-ends w
+
+  pub at-moment : k.throughout ≡ true → Judges k text h old new → JudgesAt false k text h old new
+  at-moment throughout judges comes moments ends ks told is later later-ends was = by k.throughout throughout was
+    where
+      by : (b : Bool) → b ≡ true → IsJudged comes (cond b moments ends) k old → IsJudged comes (cond b (moments ++ ks) ends) k new
+      by true e w = judges comes moments ks told is later w
+      by false e w = absurd (false≢true e)
+
+pub not-asked : (k : Claim) (text : List ℕ) (h : List Move) (j : Judgement) → k.throughout ≡ false → JudgesAt false k text h j j
+not-asked k text h j no_ comes moments ends ks told is later later-ends was = by k.throughout no_ was
+  where
+    by : (b : Bool) → b ≡ false → IsJudged comes (cond b moments ends) k j → IsJudged comes (cond b (moments ++ ks) ends) k j
+    by true e w = absurd (false≢true (sym e))
+    by false e w = w
+
+pub asked-at-end : (is_end : Bool) (k : Claim) (text : List ℕ) (h : List Move) (old new : Judgement) → is_end ≡ true → Judges k text h old new → JudgesAt is_end k text h old new
+asked-at-end true k text h old new e judges = at-end k text h old new judges
+asked-at-end false k text h old new e judges = absurd (false≢true e)
+
+pub asked-throughout : (is_end : Bool) (k : Claim) (text : List ℕ) (h : List Move) (old new : Judgement) → k.throughout ≡ true → Judges k text h old new → JudgesAt is_end k text h old new
+asked-throughout true k text h old new e judges = at-end k text h old new judges
+asked-throughout false k text h old new e judges = at-moment k text h old new e judges
+
+pub none-asked : (is_end : Bool) (k : Claim) (text : List ℕ) (h : List Move) (j : Judgement) → (not is_end && not k.throughout) ≡ true → JudgesAt is_end k text h j j
+none-asked true k text h j e = absurd (false≢true e)
+none-asked false k text h j e = not-asked k text h j (by k.throughout e)
+  where
+    by : (b : Bool) → not b ≡ true → b ≡ false
+    by true e = absurd (false≢true e)
+    by false e = refl
+
+-- a claim that is asked at no moment any more
+pub none-wanted : (k : Claim) (text : List ℕ) (h : List Move) (j : Judgement) → (k.throughout && not (has_failed j)) ≡ false → JudgesAt false k text h j j
+none-wanted k text h j e = by k.throughout refl e
+  where
+    failed : (b : Bool) → not b ≡ false → b ≡ true
+    failed true e = refl
+    failed false e = absurd (false≢true (sym e))
+
+    by : (b : Bool) → k.throughout ≡ b → (b && not (has_failed j)) ≡ false → JudgesAt false k text h j j
+    by true is e = at-moment k text h j j is (stays-failed k text h j (failed (has_failed j) e))
+    by false is e = not-asked k text h j is
+
 -- One after the other.
 
 get-set-other : {X : Type 0} (xs : List X) (i j : ℕ) (x : X) → j ≢ i → slice_get (set xs i x) j ≡ slice_get xs j
@@ -87,34 +138,34 @@ some-is : {X : Type 0} (x y : X) → Some x ≡ Some y → x ≡ y
 some-is x y e = cc
 
 -- the first so many of the claims were judged, and what was found of the others is as it was
-pub record AreSoFar (claims : List Claim) (text : List ℕ) (h : List Move) (old now : List Judgement) (n : ℕ) : Type 0 where
+pub record AreSoFar (is_end : Bool) (claims : List Claim) (text : List ℕ) (h : List Move) (old now : List Judgement) (n : ℕ) : Type 0 where
   pub many : length now ≡ length old
-  pub passed : (i : ℕ) (k : Claim) (j j' : Judgement) → i < n → slice_get claims i ≡ Some k → slice_get old i ≡ Some j → slice_get now i ≡ Some j' → Judges k text h j j'
+  pub passed : (i : ℕ) (k : Claim) (j j' : Judgement) → i < n → slice_get claims i ≡ Some k → slice_get old i ≡ Some j → slice_get now i ≡ Some j' → JudgesAt is_end k text h j j'
   pub rest : (i : ℕ) → n ≤ i → slice_get now i ≡ slice_get old i
 
-pub none-yet : (claims : List Claim) (text : List ℕ) (h : List Move) (old : List Judgement) → AreSoFar claims text h old old 0
-none-yet claims text h old = record {
+pub none-yet : (is_end : Bool) (claims : List Claim) (text : List ℕ) (h : List Move) (old : List Judgement) → AreSoFar is_end claims text h old old 0
+none-yet is_end claims text h old = record {
   many = refl;
   passed = λ i k j j' lt. absurd (omega (arith, lt));
   rest = λ i le. refl;
 }
 
-pub one-more : (claims : List Claim) (text : List ℕ) (h : List Move) (old now : List Judgement) (n : ℕ) (k : Claim) (j j' : Judgement) → AreSoFar claims text h old now n
-    → slice_get claims n ≡ Some k → slice_get now n ≡ Some j → n < length now → Judges k text h j j' → AreSoFar claims text h old (set now n j') (n + 1)
-one-more claims text h old now n k j j' so claim at lt judges = record {
+pub one-more : (is_end : Bool) (claims : List Claim) (text : List ℕ) (h : List Move) (old now : List Judgement) (n : ℕ) (k : Claim) (j j' : Judgement) → AreSoFar is_end claims text h old now n
+    → slice_get claims n ≡ Some k → slice_get now n ≡ Some j → n < length now → JudgesAt is_end k text h j j' → AreSoFar is_end claims text h old (set now n j') (n + 1)
+one-more is_end claims text h old now n k j j' so claim at lt judges = record {
   many = length-set now n j' ∙ so.many;
   passed = λ i k2 o o2 less c a b. by i k2 o o2 (cases_lt i n) less c a b;
   rest = λ i le. get-set-other now n i j' (λ e. omega (arith, le, e)) ∙ so.rest i (omega (arith, le));
 }
   where
-    by : (i : ℕ) (k2 : Claim) (o o2 : Judgement) → (i < n) ⊎ (n ≤ i) → i < n + 1 → slice_get claims i ≡ Some k2 → slice_get old i ≡ Some o → slice_get (set now n j') i ≡ Some o2 → Judges k2 text h o o2
+    by : (i : ℕ) (k2 : Claim) (o o2 : Judgement) → (i < n) ⊎ (n ≤ i) → i < n + 1 → slice_get claims i ≡ Some k2 → slice_get old i ≡ Some o → slice_get (set now n j') i ≡ Some o2 → JudgesAt is_end k2 text h o o2
     by i k2 o o2 (inl l) less c a b = so.passed i k2 o o2 l c a (sym (get-set-other now n i j' (λ e. omega (arith, l, e))) ∙ b)
     by i k2 o o2 (inr l) less c a b =
         let is : i ≡ n = omega (arith, l, less) in
         let same-k : k ≡ k2 = some-is k k2 (sym claim ∙ sym (ap (slice_get claims) is) ∙ c) in
         let same-o : j ≡ o = some-is j o (sym at ∙ so.rest n (omega arith) ∙ sym (ap (slice_get old) is) ∙ a) in
         let same-n : j' ≡ o2 = some-is j' o2 (sym (get-set-same now n j' lt) ∙ sym (ap (slice_get (set now n j')) is) ∙ b) in
-        subst (λ (x : Judgement). Judges k2 text h o x) same-n (subst (λ (x : Judgement). Judges k2 text h x j') same-o (subst (λ (x : Claim). Judges x text h j j') same-k judges))
+        subst (λ (x : Judgement). JudgesAt is_end k2 text h o x) same-n (subst (λ (x : Judgement). JudgesAt is_end k2 text h x j') same-o (subst (λ (x : Claim). JudgesAt is_end x text h j j') same-k judges))
 
 has-some : {X : Type 0} (xs : List X) (i : ℕ) → i < length xs → (x : X) × (slice_get xs i ≡ Some x)
 has-some [] i lt = absurd (omega (arith, lt))
@@ -126,24 +177,28 @@ get-below [] i x e = absurd (cc)
 get-below (y ∷ xs) zero x e = omega arith
 get-below (y ∷ xs) (suc i) x e = let l = get-below xs i x e in omega (arith, l)
 
-pub all-judged : (claims : List Claim) (text : List ℕ) (h : List Move) (old now : List Judgement) (n : ℕ) → (length old ≡ length claims → length claims ≤ n) → AreSoFar claims text h old now n → JudgesAll claims text h old now
-all-judged claims text h old now n all so comes hs ks told is later was = record {
+pub all-judged : (is_end : Bool) (claims : List Claim) (text : List ℕ) (h : List Move) (old now : List Judgement) (n : ℕ) → (length old ≡ length claims → length claims ≤ n) → AreSoFar is_end claims text h old now n → JudgesAll is_end claims text h old now
+all-judged is_end claims text h old now n all so comes moments ends ks told is later later-ends was = record {
   many = so.many ∙ was.many;
   each = λ i k j c b.
       (let lt = get-below claims i k c in
       let m = was.many in
       let far = all m in
       let o = has-some old i (omega (arith, lt, m)) in
-      so.passed i k o.0 j (omega (arith, lt, far)) c o.1 b comes hs ks told is later (was.each i k o.0 c o.1));
+      so.passed i k o.0 j (omega (arith, lt, far)) c o.1 b comes moments ends ks told is later later-ends (was.each i k o.0 c o.1));
 }
 
 -- No history was looked at.
-pub nothing-found : (comes : List Move → List ℕ) (claims : List Claim) (judged : List Judgement) → length judged ≡ length claims → All (λ (j : Judgement). has_failed j ≡ false) judged → AreJudged comes [] claims judged
+pub nothing-found : (comes : List Move → List ℕ) (claims : List Claim) (judged : List Judgement) → length judged ≡ length claims → All (λ (j : Judgement). has_failed j ≡ false) judged → AreJudged comes [] [] claims judged
 nothing-found comes claims judged many none = record {
   many = many;
-  each = λ i k j c b. nothing k j (found judged i j none b);
+  each = λ i k j c b. either k.throughout k j (nothing k j (found judged i j none b));
 }
   where
+    either : (b : Bool) (k : Claim) (j : Judgement) → IsJudged comes [] k j → IsJudged comes (cond b [] []) k j
+    either true k j h = h
+    either false k j h = h
+
     nothing : (k : Claim) (j : Judgement) → has_failed j ≡ false → IsJudged comes [] k j
     nothing k Met e = All-nil (λ (x : List Move). meets k (comes x) ≡ true)
     nothing k (Failed moves lines) e = absurd (false≢true (sym e))
@@ -157,3 +212,28 @@ pub read-at : {X : Type 0} (xs : List X) (i : ℕ) (x : X) → i < length xs →
 read-at [] i x lt e = absurd (omega (arith, lt))
 read-at (y ∷ xs) zero x lt e = ap (λ z. Some z) (sym e)
 read-at (y ∷ xs) (suc i) x lt e = read-at xs i x (omega (arith, lt)) e
+
+-- None of the first so many claims is asked at a moment any more.
+abbrev pub NoneWanted : List Claim → List Judgement → ℕ → Type 0
+NoneWanted claims judged n =
+    (i : ℕ) (k : Claim) (j : Judgement) → i < n → slice_get claims i ≡ Some k → slice_get judged i ≡ Some j → (text : List ℕ) (h : List Move) → JudgesAt false k text h j j
+
+pub none-more : (claims : List Claim) (judged : List Judgement) (n : ℕ) (k : Claim) (j : Judgement) → NoneWanted claims judged n → slice_get claims n ≡ Some k → slice_get judged n ≡ Some j
+    → ((text : List ℕ) (h : List Move) → JudgesAt false k text h j j) → NoneWanted claims judged (n + 1)
+none-more claims judged n k j so claim at none i k2 j2 less c a text h = by (cases_lt i n)
+  where
+    by : (i < n) ⊎ (n ≤ i) → JudgesAt false k2 text h j2 j2
+    by (inl lt) = so i k2 j2 lt c a text h
+    by (inr ge) =
+        let is : i ≡ n = omega (arith, ge, less) in
+        let same-k : k ≡ k2 = some-is k k2 (sym claim ∙ sym (ap (slice_get claims) is) ∙ c) in
+        let same-j : j ≡ j2 = some-is j j2 (sym at ∙ sym (ap (slice_get judged) is) ∙ a) in
+        subst (λ (x : Judgement). JudgesAt false k2 text h x x) same-j (subst (λ (x : Claim). JudgesAt false x text h j j) same-k (none text h))
+
+pub none-of-all : (claims : List Claim) (judged : List Judgement) (n : ℕ) → (length judged ≡ length claims → length claims ≤ n) → NoneWanted claims judged n
+    → (text : List ℕ) (h : List Move) → JudgesAll false claims text h judged judged
+none-of-all claims judged n all so text h = all-judged false claims text h judged judged n all (record {
+  many = refl;
+  passed = λ i k j j' lt c a b. subst (λ (x : Judgement). JudgesAt false k text h j x) (some-is j j' (sym a ∙ b)) (so i k j lt c a text h);
+  rest = λ i le. refl;
+})

@@ -32,7 +32,7 @@ end
 ";
 
 const LOCK_TOLD: &str = "\
-events 186
+events 201
 claims 2
 1 holds nothing lost
 2 holds nothing left
@@ -86,7 +86,7 @@ deliver 2 1
 deliver 1 2
 deliver 2 1
 deliver 1 2
-facts 11
+facts 12
 answer 1 1 post 1:1:0 port 1.p.1 plain =1
 answer 1 2 post 1:2:0 port 1.p.1 plain =2
 answer 1 3 post 1:3:0 port 1.p.1 plain =3
@@ -98,6 +98,7 @@ verdict 1:2:0 accepted
 verdict 1:3:0 full 2
 verdict 1:4:0 full 2
 port 1.p.1 1.a.1 1:1:0 1:2:0
+accepted 1.p.1 1:1:0 1:2:0
 schedule 5
 step 1
 step 1
@@ -113,7 +114,7 @@ step 2
 deliver 1 2
 deliver 2 1
 deliver 1 2
-facts 11
+facts 12
 answer 1 1 post 1:1:0 port 1.p.1 plain =1
 answer 1 2 post 1:2:0 port 1.p.1 plain =2
 answer 1 3 post 1:3:0 port 1.p.1 plain =3
@@ -125,6 +126,7 @@ verdict 1:2:0 accepted
 verdict 1:3:0 full 2
 verdict 1:4:0 accepted
 port 1.p.1 1.a.1 1:2:0 1:4:0
+accepted 1.p.1 1:1:0 1:2:0 1:4:0
 end
 ";
 
@@ -170,20 +172,26 @@ step 3
 deliver 1 2
 deliver 1 2
 deliver 2 1
-facts 13
+facts 19
 answer 1 1 post 1:1:0 one 1.g.1 plain =job
 answer 1 2 post 1:2:0 one 1.g.1 plain =job
 answer 2 1 post 2:1:0 one 1.g.1 plain =job
 answer 3 1 take 1.p.1 1:1:1
 answer 4 1 empty 2.p.1
 verdict 1:1:0 chosen
+copy 1:1:1 1.p.1
 verdict 1:1:1 accepted
 verdict 1:2:0 chosen
+copy 1:2:1 2.p.1
 verdict 1:2:1 accepted
 verdict 2:1:0 chosen
+copy 2:1:1 1.p.1
 verdict 2:1:1 full 1
 port 1.p.1 1.a.1
 port 2.p.1 2.a.1 1:2:1
+accepted 1.p.1 1:1:1
+accepted 2.p.1 1:2:1
+members 1.g.1 1.p.1 2.p.1
 end
 ";
 
@@ -212,12 +220,13 @@ step 2
 deliver 2 1
 step 1
 deliver 1 2
-facts 5
+facts 6
 answer 1 1 post 1:1:0 port 1.p.1 plain =near
 answer 2 1 post 2:1:0 port 1.p.1 plain =far
 verdict 1:1:0 full 1
 verdict 2:1:0 accepted
 port 1.p.1 1.a.1 2:1:0
+accepted 1.p.1 2:1:0
 end
 ";
 
@@ -246,23 +255,25 @@ step 2
 deliver 2 1
 step 1
 deliver 1 2
-facts 5
+facts 6
 answer 1 1 post 1:1:0 port 1.p.1 plain =near
 answer 2 1 post 2:1:0 port 1.p.1 plain =far
 verdict 1:1:0 full 1
 verdict 2:1:0 accepted
 port 1.p.1 1.a.1 2:1:0
+accepted 1.p.1 2:1:0
 schedule 2
 step 1
 step 2
 deliver 2 1
 deliver 1 2
-facts 5
+facts 6
 answer 1 1 post 1:1:0 port 1.p.1 plain =near
 answer 2 1 post 2:1:0 port 1.p.1 plain =far
 verdict 1:1:0 accepted
 verdict 2:1:0 full 1
 port 1.p.1 1.a.1 1:1:0
+accepted 1.p.1 1:1:0
 end
 ";
 
@@ -310,7 +321,7 @@ fn check_on<S: Source, K: Sink>(
 }
 
 /// Asserts that a check with at most so many events comes to this and tells this of the scenario.
-fn assert_checks(
+pub(crate) fn assert_checks(
     rt: &impl Abort,
     alloc: Global,
     most: u32,

@@ -1,6 +1,6 @@
-use Rattle.std.proofs.Common.{List, length, map, refl, sym, ◌∙◌, ap, subst}
+use Rattle.std.proofs.Common.{◌≡◌, Bool, true, false, List, length, map, refl, sym, ◌∙◌, ap, subst}
 use Rattle.law_explore.specs.Alike.{NetsAlike}
-use Rattle.law_explore.specs.Positions.{TellAlike}
+use Rattle.law_explore.specs.Positions.{AskAlike}
 use Rattle.chorus_scene.specs.Scene.{Script}
 use Rattle.chorus_net.specs.Sites.{net}
 use Rattle.chorus_explore.specs.Tellings.{kept_of}
@@ -15,5 +15,7 @@ are_alike-requires c =
 pub returns : goal.returns
 returns c = λ e.
     come-alike c.args.scenario.now c.args.self.now c.args.other.now c.requires.one c.requires.other
-    (sym (ap (map kept_of) c.as_slice.ensures.value) ∙ (c.if-not-are_as_far.ensures refl) ∙ ap (map kept_of) c.as_slice-2.ensures.value) (subst (λ (ss : List Script). NetsAlike TellAlike (length ss) (net c.args.self.now.sites) (net c.args.other.now.sites)) c.scripts.ensures
+    c.if-asks-asks.false
+    (sym (ap (map kept_of) c.as_slice.ensures.value) ∙ (c.if-not-are_as_far.ensures refl) ∙ ap (map kept_of) c.as_slice-2.ensures.value)
+    (subst (λ (ss : List Script). NetsAlike (AskAlike c.args.self.now.asks) (length ss) (net c.args.self.now.sites) (net c.args.other.now.sites)) c.scripts.ensures
     (c.in_ok-alike.ensures e))
