@@ -1,1 +1,2 @@
 pub mod Quieting
+pub mod Blamed
