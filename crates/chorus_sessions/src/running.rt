@@ -1,10 +1,15 @@
 //! Sessions are run.
 
-ghost use Rattle.std.specs.Prelude.{IfOk};
-ghost use Rattle.chorus_nucleus.specs.Passes.{known, layout_of, IsPassOf};
+ghost use Rattle.std.specs.Prelude.{◌≡◌, [], true, IfOk, None, OnOk, Some, slice_get};
+ghost use Rattle.chorus_nucleus.specs.Calls.{gave};
+ghost use Rattle.chorus_nucleus.specs.Passes.{known, layout_of, worn_by, IsPassOf};
+ghost use Rattle.chorus_nucleus.specs.Rounds.{IsEven};
 ghost use Rattle.chorus_nucleus.specs.Closing.{IsClosed};
 ghost use Rattle.chorus_net.specs.Closing.{past_of};
-ghost use Rattle.chorus_sessions.specs.Hands.{AreHandedOut, AreKept};
+ghost use Rattle.chorus_sessions.specs.Hands.{AreHandedOut, AreKept, WereDelivered};
+ghost use Rattle.chorus_sessions.specs.Delivering.{Pumps};
+ghost use Rattle.chorus_sessions.specs.Kept.{NoneIsLost};
+ghost use Rattle.chorus_sessions.specs.Playing.{HaveDone, HaveDoneBoth, HasPlayed, HavePlayed, IsEmptied};
 ghost use Rattle.chorus_sessions.specs.Sessions.{AreSessions, Goes, HasAllBack, HaveRun, IsKeeper, IsRunOf, IsSession};
 
 use crate::behaviour::Behaviour;
@@ -24,7 +29,7 @@ use std::thread::{self, Threads};
 /// What came of sessions.
 #[derive(Drop)]
 pub struct Finished {
-    /// What each session was handed out, that of the last behaviour first.
+    /// What each session has in hand, that of the last behaviour first.
     pub hands: Vec<Hand>,
     /// The journals of all places, and what is left: the messages that wait still.
     pub closed: Closed,
@@ -38,7 +43,8 @@ fn run_all<R: Threads + Wait + Sync, B: Behaviour>(
     sessions: &mut [Session],
 )
     requires { AreSessions nucleus.now sessions.old }
-    ensures { HaveRun nucleus.now sessions.old sessions.new }
+    ensures run { HaveRun nucleus.now sessions.old sessions.new }
+    ensures done { HaveDone B.ran nucleus.now behaviours.now sessions.old sessions.new }
 {
     let threads = sessions.len();
     if threads > 0 {
@@ -48,7 +54,9 @@ fn run_all<R: Threads + Wait + Sync, B: Behaviour>(
             threads,
             &|index: usize, session: &mut Session|
                 requires { IsSession nucleus.now session.old }
-                ensures { IsSession nucleus.entry.now session.new }
+                ensures { IsSession nucleus.entry.now session.exit.now
+                    × ((b : B) → slice_get behaviours.entry.now index ≡ Some b →
+                    B.ran b nucleus.entry.now session.entry.now session.exit.now) }
             { run_one(rt, nucleus, behaviours, index, session) },
         );
     }
@@ -63,7 +71,9 @@ fn run_one<R: Wait, B: Behaviour>(
     session: &mut Session,
 )
     requires { IsSession nucleus.now session.old }
-    ensures { IsSession nucleus.now session.new }
+    ensures { IsSession nucleus.now session.new
+        × ((b : B) → slice_get behaviours.now index ≡ Some b →
+        B.ran b nucleus.now session.old session.new) }
 {
     if let Some(behaviour) = behaviours.get(index) {
         behaviour.run(rt, nucleus, session);
@@ -78,7 +88,8 @@ fn finish_all<R: Threads + Sync, B: Behaviour>(
     sessions: &mut [Session],
 )
     requires { AreSessions nucleus.now sessions.old }
-    ensures { HaveRun nucleus.now sessions.old sessions.new }
+    ensures run { HaveRun nucleus.now sessions.old sessions.new }
+    ensures done { HaveDone B.finished nucleus.now behaviours.now sessions.old sessions.new }
 {
     thread::for_each_mut(
         rt,
@@ -86,7 +97,9 @@ fn finish_all<R: Threads + Sync, B: Behaviour>(
         1,
         &|index: usize, session: &mut Session|
             requires { IsSession nucleus.now session.old }
-            ensures { IsSession nucleus.entry.now session.new }
+            ensures { IsSession nucleus.entry.now session.exit.now
+                × ((b : B) → slice_get behaviours.entry.now index ≡ Some b →
+                B.finished b nucleus.entry.now session.entry.now session.exit.now) }
         { finish_one(nucleus, behaviours, index, session) },
     );
 }
@@ -99,7 +112,9 @@ fn finish_one<B: Behaviour>(
     session: &mut Session,
 )
     requires { IsSession nucleus.now session.old }
-    ensures { IsSession nucleus.now session.new }
+    ensures { IsSession nucleus.now session.new
+        × ((b : B) → slice_get behaviours.now index ≡ Some b →
+        B.finished b nucleus.now session.old session.new) }
 {
     if let Some(behaviour) = behaviours.get(index) {
         behaviour.finish(nucleus, session);
@@ -119,7 +134,11 @@ fn run_to_the_end<R: Threads + Wait + Sync, B: Behaviour>(
     requires pass { IsPassOf nucleus.now pass.old }
     requires sessions { AreSessions nucleus.now sessions.old }
     ensures pass { Goes nucleus.now pass.old pass.new }
+    ensures pumps { Pumps nucleus.now pass.old pass.new }
     ensures sessions { HaveRun nucleus.now sessions.old sessions.new }
+    ensures came { OnOk result (all_came ≡ true) }
+    ensures done { OnOk result (HaveDoneBoth B.ran B.finished nucleus.now behaviours.now sessions.old
+        sessions.new) }
 {
     if !all_came {
         return Err(SessionsFault::NoSession);
@@ -132,7 +151,8 @@ fn run_to_the_end<R: Threads + Wait + Sync, B: Behaviour>(
     Ok(())
 }
 
-/// The ports are made; the sessions come, run, and go. Gives what they have in hand.
+/// The ports are made; the sessions come, run, and go; and packets are moved until none is left or a clock is worn. Gives what they
+/// have in hand.
 fn play<R: Threads + Wait + Sync, B: Behaviour>(
     alloc: Global,
     rt: &R,
@@ -143,10 +163,15 @@ fn play<R: Threads + Wait + Sync, B: Behaviour>(
 ) -> Result<Vec<Hand>, SessionsFault>
     requires pass { IsPassOf nucleus.now pass.old }
     requires keeper { IsKeeper 0 0 pass.old }
+    requires new { gave (known pass.old) ≡ [] }
     ensures pass { IsPassOf nucleus.now pass.new }
     ensures back { HasAllBack pass.new }
     ensures kept { IfOk result (λ hands. AreKept (layout_of nucleus.now) (known pass.new)
         (known pass.new).notes hands.items) }
+    ensures played { IfOk result (λ hands. HasPlayed B.in_actor B.ran B.finished nucleus.now ports.now
+        behaviours.now hands.items pass.old pass.new) }
+    ensures even { OnOk result (worn_by pass.new ≡ None →
+        IsEven (layout_of nucleus.now) (known pass.new)) }
 {
     make_ports(nucleus, pass, ports)?;
     let mut hands = Vec::with_capacity(alloc, behaviours.len())?;
@@ -155,6 +180,9 @@ fn play<R: Threads + Wait + Sync, B: Behaviour>(
     let ran = run_to_the_end(rt, nucleus, pass, behaviours, &mut sessions, all_came);
     retire_all(nucleus, pass, sessions, &mut hands);
     ran?;
+    if !settle(rt, nucleus, pass) {
+        return Err(SessionsFault::Memory(AllocError));
+    }
     Ok(hands)
 }
 
@@ -173,7 +201,8 @@ fn close<R: Wait>(rt: &R, nucleus: Nucleus, pass: Pass) -> Result<Closed, AllocE
 
 /// Runs sessions on a nucleus of this layout, one for each behaviour, in their order. The ports are made first. Then
 /// the sessions come, each in its actor, and run, each in a thread of its own where one can be made. When all have run,
-/// packets are moved until none is left or a clock is worn, and they finish, one after the other. Then the nucleus is closed.
+/// packets are moved until none is left or a clock is worn, and they finish, one after the other. Then packets are moved once more, and
+/// the nucleus is closed.
 ///
 /// `NoPort` comes where a port was not made, `NoSession` where a session did not come; no behaviour has run then. `Memory` comes also
 /// behind behaviours that ran, where no packet can be moved or the nucleus cannot be closed for want of it: what was handed out is lost
@@ -187,6 +216,11 @@ pub fn run_sessions<R: Threads + Wait + Sync, B: Behaviour>(
 ) -> Result<Finished, SessionsFault>
     ensures run { IfOk result (λ f. IsRunOf layout f.closed) }
     ensures hands { IfOk result (λ f. AreHandedOut (past_of f.closed) f.hands.items) }
+    ensures kept { IfOk result (λ f. NoneIsLost layout f.closed f.hands.items) }
+    ensures delivered { IfOk result (λ f. WereDelivered (past_of f.closed) f.hands.items) }
+    ensures played { IfOk result (λ f. HavePlayed B.in_actor B.ran B.finished layout ports.now
+        behaviours.now f.hands.items f.closed) }
+    ensures left { IfOk result (λ f. IsEmptied f.closed) }
 {
     let (nucleus, mut pass) = Nucleus::start(alloc, rt, layout)?;
     let hands = play(alloc, rt, &nucleus, &mut pass, ports, behaviours);

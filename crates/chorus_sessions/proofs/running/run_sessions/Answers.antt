@@ -1,4 +1,5 @@
-use Rattle.chorus_sessions.proofs.Standing.{are-handed-out, run-of}
+use Rattle.chorus_sessions.proofs.Kept.{none-is-lost}
+use Rattle.chorus_sessions.proofs.Standing.{are-handed-out, run-of, were-delivered}
 use Rattle.chorus_sessions.proofs.running.run_sessions.Goals as goal
 
 pub returns-clause-run : goal.returns-clause-run
@@ -8,3 +9,17 @@ pub returns-clause-hands : goal.returns-clause-hands
 returns-clause-hands g c =
     let e = c.play-hands.ensures in
     are-handed-out c.in_ok-nucleus.nucleus c.play-hands.new.pass c.in_ok-closed.closed c.in_ok-closed.ensures e.pass e.back c.in_ok-hands.field-0.items c.in_ok-hands.ensures.kept
+
+pub returns-clause-kept : goal.returns-clause-kept
+returns-clause-kept g c =
+    let e = c.play-hands.ensures in
+    let n = c.in_ok-nucleus.nucleus in
+    let pass = c.play-hands.new.pass in
+    let layout = c.in_ok-nucleus.ensures.layout in
+    none-is-lost n c.args.layout pass c.in_ok-closed.closed c.in_ok-hands.field-0.items layout c.in_ok-closed.ensures (run-of n c.args.layout pass c.in_ok-closed.closed layout c.in_ok-closed.ensures)
+    (are-handed-out n pass c.in_ok-closed.closed c.in_ok-closed.ensures e.pass e.back c.in_ok-hands.field-0.items c.in_ok-hands.ensures.kept)
+
+pub returns-clause-delivered : goal.returns-clause-delivered
+returns-clause-delivered g c =
+    let e = c.play-hands.ensures in
+    were-delivered c.in_ok-nucleus.nucleus c.play-hands.new.pass c.in_ok-closed.closed c.in_ok-closed.ensures e.pass e.back c.in_ok-hands.field-0.items c.in_ok-hands.ensures.kept
