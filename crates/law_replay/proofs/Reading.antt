@@ -18,7 +18,7 @@ use Rattle.chorus_scene.specs.declared.limits.TheConstants.{TEXT_LIMIT, VERSION_
 use Rattle.chorus_lines.specs.Text.{cut, lines, is_text, is_skipped}
 use Rattle.chorus_scene.specs.Scene.{Scene}
 use Rattle.chorus_scene.specs.Making.{next_port, next_group, makes, made_after}
-use Rattle.chorus_scene.specs.Line.{Line, VersionLine, SitesLine, PortLine, GroupLine, MemberLine, ScriptLine, CommandLine, ClaimLine, ScheduleLine, StepLine, EndLine}
+use Rattle.chorus_scene.specs.Line.{Line, VersionLine, SitesLine, PortLine, GroupLine, MemberLine, ScriptLine, CommandLine, AwaitLine, ClaimLine, ScheduleLine, StepLine, EndLine}
 use Rattle.chorus_scene.specs.Grammar.{State, opening, made, most_sites, is_no_claim, is_misspelled, is_beyond, command_is_unknown, names_unknown, repeats, is_not_given, cannot_go, is_unscheduled, is_far, judge_line, judge_word, judge_head, is_head, judge_bytes, after, then_after, next, read_scene}
 use Rattle.chorus_scene.specs.Laws.{Pass}
 use Rattle.chorus_scene.proofs.Law.{Tidy, Said, line_said, inv_text, inv_judge}
@@ -74,6 +74,7 @@ module _ (n : ℕ) (eight : 8 ≤ n) where
     claim-same (MemberLine group port) = refl
     claim-same (ScriptLine actor) = refl
     claim-same (CommandLine command) = refl
+    claim-same (AwaitLine port) = refl
     claim-same ScheduleLine = refl
     claim-same (StepLine step) = refl
     claim-same EndLine = refl
@@ -87,6 +88,7 @@ module _ (n : ℕ) (eight : 8 ≤ n) where
     spelled-same (MemberLine group port) = refl
     spelled-same (ScriptLine actor) = refl
     spelled-same (CommandLine command) = refl
+    spelled-same (AwaitLine port) = refl
     spelled-same ScheduleLine = refl
     spelled-same (StepLine step) = refl
     spelled-same EndLine = refl
@@ -100,6 +102,7 @@ module _ (n : ℕ) (eight : 8 ≤ n) where
     beyond-same (MemberLine group port) = refl
     beyond-same (ScriptLine actor) = refl
     beyond-same (CommandLine command) = refl
+    beyond-same (AwaitLine port) = refl
     beyond-same (ClaimLine text) = refl
     beyond-same ScheduleLine = refl
     beyond-same (StepLine step) = refl
@@ -129,6 +132,7 @@ module _ (n : ℕ) (eight : 8 ≤ n) where
     unknown-same (MemberLine group port) =
         ap (λ (names : List Ui). not (not (is_far c group) && is_member group names) || not (not (is_far c port) && is_member port names)) made-is
     unknown-same (CommandLine command) = command-same command
+    unknown-same (AwaitLine port) = refl
     unknown-same (ClaimLine text) = refl
     unknown-same (SitesLine m) = refl
     unknown-same (VersionLine v) = refl
@@ -144,6 +148,7 @@ module _ (n : ℕ) (eight : 8 ≤ n) where
     repeats-same (GroupLine u) = ap (is_member u) made-is
     repeats-same (MemberLine group port) = refl
     repeats-same (CommandLine command) = refl
+    repeats-same (AwaitLine port) = refl
     repeats-same (ClaimLine text) = refl
     repeats-same (SitesLine m) = refl
     repeats-same (VersionLine v) = refl
@@ -157,6 +162,7 @@ module _ (n : ℕ) (eight : 8 ≤ n) where
     given-same (GroupLine u) = ap (λ (names : List Ui). not (same_ui u (next_group c.layout u.site names))) made-is
     given-same (MemberLine group port) = refl
     given-same (CommandLine command) = refl
+    given-same (AwaitLine port) = refl
     given-same (ClaimLine text) = refl
     given-same (SitesLine m) = refl
     given-same (VersionLine v) = refl
@@ -176,6 +182,7 @@ module _ (n : ℕ) (eight : 8 ≤ n) where
     unscheduled-same (GroupLine u) = refl
     unscheduled-same (MemberLine group port) = refl
     unscheduled-same (CommandLine command) = refl
+    unscheduled-same (AwaitLine port) = refl
     unscheduled-same (ClaimLine text) = refl
     unscheduled-same (SitesLine m) = refl
     unscheduled-same (VersionLine v) = refl
@@ -202,6 +209,7 @@ module _ (n : ℕ) (eight : 8 ≤ n) where
   after-on s (MemberLine group port) = refl
   after-on s (ScriptLine actor) = refl
   after-on s (CommandLine command) = refl
+  after-on s (AwaitLine port) = refl
   after-on s (ClaimLine text) = refl
   after-on s ScheduleLine = refl
   after-on s (StepLine step) = refl
@@ -240,6 +248,7 @@ head-gone s (GroupLine u) h f = (refl, refl)
 head-gone s (MemberLine group port) h f = (refl, refl)
 head-gone s (ScriptLine actor) h f = (refl, refl)
 head-gone s (CommandLine command) h f = (refl, refl)
+head-gone s (AwaitLine port) h f = (refl, refl)
 head-gone s (ClaimLine text) h f = (refl, refl)
 head-gone s ScheduleLine h f = (refl, refl)
 head-gone s (StepLine step) h f = (refl, refl)
@@ -253,6 +262,7 @@ layout-kept s (GroupLine u) = refl
 layout-kept s (MemberLine group port) = refl
 layout-kept s (ScriptLine actor) = refl
 layout-kept s (CommandLine command) = refl
+layout-kept s (AwaitLine port) = refl
 layout-kept s (ClaimLine text) = refl
 layout-kept s ScheduleLine = refl
 layout-kept s (StepLine step) = refl
