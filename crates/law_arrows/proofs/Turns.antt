@@ -1,5 +1,5 @@
 -- What a turn appends: all at its place; and where it works a packet off, first the entry that the packet leads to.
-use Rattle.std.proofs.Common.{ℕ, ◌≡◌, Bool, true, false, List, [], ◌∷◌, ◌++◌, Some, refl, sym, ◌∙◌, ap}
+use Rattle.std.proofs.Common.{ℕ, ◌≡◌, Bool, true, false, List, [], ◌∷◌, ◌++◌, Some, refl, sym, ◌∙◌, ap, subst}
 use Rattle.std.specs.List.{All}
 use Rattle.std.proofs.lemmas.Bool.{false≢true}
 use Rattle.std.proofs.lemmas.List.Elements.{All-nil, All-cons}
@@ -14,6 +14,7 @@ use Rattle.chorus_entry.specs.declared.answer.Answer.{Answer}
 use Rattle.chorus_entry.specs.declared.answer.Answer.TheVariants as A
 use Rattle.chorus_entry.specs.declared.act.Act.{Act}
 use Rattle.chorus_entry.specs.declared.command.Command.{Command}
+use Rattle.chorus_entry.specs.declared.packet.Packet.{Packet}
 use Rattle.chorus_entry.specs.declared.packet.Cargo.{Cargo}
 use Rattle.chorus_entry.specs.Act.{message_of}
 use Rattle.chorus_entry.specs.MsgId.{same_id}
@@ -21,16 +22,14 @@ use Rattle.chorus_entry.specs.Same.{are_same}
 use Rattle.chorus_world.specs.Views.{is_about, is_on}
 use Rattle.chorus_world.proofs.Messages.SendingLemmas.{same_id_sym}
 use Rattle.law_machine.specs.declared.outgoing.Outgoing.{Outgoing}
-use Rattle.law_machine.specs.PlaceState.{Turn, Change, next_entry, say, unchanged}
+use Rattle.law_machine.specs.PlaceState.{Turn, Change, next_entry, say}
 use Rattle.law_machine.specs.Own.{own}
-use Rattle.law_machine.specs.PlaceMachine.{act}
+use Rattle.law_machine.specs.PlaceMachine.{act, work}
 use Rattle.law_machine.specs.Deciding.{decide, decision}
-use Rattle.law_machine.specs.Choosing.{choice, chooses_all, chooses_these}
-use Rattle.law_machine.specs.Working.{opens, report_of, taught_of, told}
-use Rattle.law_machine.proofs.Machine.Follows.{act-gives, all-go-keeps, go-keeps}
-use Rattle.chorus_world.specs.Places.{taught}
-use Rattle.place_unsettled.specs.declared.wait.Key.{Key}
-use Rattle.place_unsettled.specs.Queues.{changed}
+use Rattle.law_machine.specs.Choosing.{choice}
+use Rattle.law_machine.specs.Working.{opens}
+use Rattle.law_machine.proofs.Machine.Steps.{Step, Chooses, AnswersTry, HearsVerdict, Receives, Hears, act_of, taken, opening, begins}
+use Rattle.law_machine.proofs.Machine.Follows.{act-gives, work-gives}
 use Rattle.law_network.specs.UnderWay.{carries, is_of, is_with, moves, transfer, under_way}
 use Rattle.chorus_ui.specs.declared.layout.Layout.{Layout}
 use Rattle.law_picture.specs.declared.row.PacketKind.TheVariants as K
@@ -102,42 +101,15 @@ pub record Opened (c : Cargo) (t u : Turn) : Type 0 where
 
 decision-message : (x : MsgId) (q : Ui) (h : ℕ) (a : Answer) → message_of (decision x q h a) ≡ Some x
 decision-message x q h (A.Accepted pos) = refl
-decision-message x q h (A.Full len) = refl
-decision-message x q h (A.Stale to hop) = refl
-decision-message x q h (A.Early hop) = refl
-decision-message x q h A.NoPort = refl
-decision-message x q h A.Already = refl
-decision-message x q h A.ClientsFull = refl
-decision-message x q h (A.Elsewhere to hop) = refl
-decision-message x q h A.Gone = refl
-decision-message x q h A.NoMember = refl
-decision-message x q h (A.Chosen count) = refl
+decision-message x q h _ = refl
 
 decision-goes : (x : MsgId) (q : Ui) (h : ℕ) (a : Answer) → goes_on (decision x q h a) ≡ is_about (Some x)
 decision-goes x q h (A.Accepted pos) = refl
-decision-goes x q h (A.Full len) = refl
-decision-goes x q h (A.Stale to hop) = refl
-decision-goes x q h (A.Early hop) = refl
-decision-goes x q h A.NoPort = refl
-decision-goes x q h A.Already = refl
-decision-goes x q h A.ClientsFull = refl
-decision-goes x q h (A.Elsewhere to hop) = refl
-decision-goes x q h A.Gone = refl
-decision-goes x q h A.NoMember = refl
-decision-goes x q h (A.Chosen count) = refl
+decision-goes x q h _ = refl
 
 decision-kind : (x : MsgId) (q : Ui) (h : ℕ) (a : Answer) → packet_of (decision x q h a) ≡ K.Try
 decision-kind x q h (A.Accepted pos) = refl
-decision-kind x q h (A.Full len) = refl
-decision-kind x q h (A.Stale to hop) = refl
-decision-kind x q h (A.Early hop) = refl
-decision-kind x q h A.NoPort = refl
-decision-kind x q h A.Already = refl
-decision-kind x q h A.ClientsFull = refl
-decision-kind x q h (A.Elsewhere to hop) = refl
-decision-kind x q h A.Gone = refl
-decision-kind x q h A.NoMember = refl
-decision-kind x q h (A.Chosen count) = refl
+decision-kind x q h _ = refl
 
 -- an act about the message of a packet touches what the packet is about
 touches-message : (y : MsgId) (c : Cargo) (a : Act) (t : Turn) → message_of a ≡ Some y → ((x : MsgId) → carries x c ≡ same_id y x) → ((q : Ui) → moves q c ≡ false)
@@ -155,78 +127,59 @@ abbrev pub IsOfGroup : Cargo → Type 0
 IsOfGroup (Cargo.Ask m d) = IsGroup d
 IsOfGroup _ = Unit {0}
 
-chosen : (m : Message) (d : Dest) (g : Ui) (from : ℕ) (qs : List Ui) (t : Turn) → IsGroup d → Opened (Cargo.Ask m d) t (chooses_these m d g from qs t)
-chosen m d g from [] t is =
-    record {
-      act = Act.NoMember m.id g;
-      grown = starts t.place.number _ _ refl refl;
-      kind = refl;
-      goes = refl;
-      touches = touches-message m.id (Cargo.Ask m d) (Act.NoMember m.id g) t refl (λ x. refl) (λ q. refl);
-    }
-chosen m d g from (q ∷ qs) t is =
+-- what its first step says of the packet
+record Says (c : Cargo) (s : Step) (t : Turn) : Type 0 where
+  kind : packet_of (act_of s t) ≡ kind_of c
+  goes : goes_on (act_of s t) ≡ test_of (subject c)
+  touches : (x : Subject) → holds x c ≡ true → test_of x (next_entry (act_of s t) t) ≡ true
+
+opened-by : (k : Packet) (t : Turn) (s : Step) → opening k.from k.cargo t ≡ Some s → Says k.cargo s t → Opened k.cargo t (work k t)
+opened-by k t s is says =
     let p = t.place.number in
-    let base = next_entry (Act.Choose m.id g (q ∷ qs)) t ∷ t.place.journal in
+    let base = next_entry (act_of s t) t ∷ t.place.journal in
     record {
-      act = Act.Choose m.id g (q ∷ qs);
-      grown = all-go-keeps (Grown p base) (λ a x u n same h. grown-on p base a x u h) g (q ∷ qs) (chooses_all m d g from (q ∷ qs) t) (starts p base _ refl refl);
-      kind = refl;
-      goes = refl;
-      touches = touches-message m.id (Cargo.Ask m d) (Act.Choose m.id g (q ∷ qs)) t refl (λ x. refl) (λ r. refl);
+      act = act_of s t;
+      grown = work-gives (Grown p base) (λ a x u n same g. grown-on p base a x u g) k t (subst (λ o. Grown p base (begins o t)) (sym is) (starts p base (taken s t) refl refl));
+      kind = says.kind;
+      goes = says.goes;
+      touches = says.touches;
     }
 
--- the turn in which a verdict was told, before what waits goes on
-abbrev told_turn : MsgId → Ui → Key → Answer → Turn → Turn
-told_turn x q k answer t =
-    say (Act.Told x answer) (record (unchanged t) {
-      known = taught_of q (taught answer) t.place.known;
-      waiting = changed k (told answer) t.place.waiting;
-      loads = report_of t.place.number x answer (t.place.waiting k).waits;
-    }) t
+chosen : (m : Message) (d : Dest) (g : Ui) (from : ℕ) (qs : List Ui) (t : Turn) → Says (Cargo.Ask m d) (Chooses m d g from qs) t
+chosen m d g from [] t =
+    record { kind = refl; goes = refl; touches = touches-message m.id (Cargo.Ask m d) (Act.NoMember m.id g) t refl (λ x. refl) (λ q. refl) }
+chosen m d g from (q ∷ qs) t =
+    record { kind = refl; goes = refl; touches = touches-message m.id (Cargo.Ask m d) (Act.Choose m.id g (q ∷ qs)) t refl (λ x. refl) (λ r. refl) }
 
 pub opened : (from : ℕ) (c : Cargo) (t : Turn) → IsOfGroup c → Opened c t (opens from c t)
-opened from (Cargo.Try m q route only hop) t is =
-    let a = decide m q only hop t.place in
-    record {
-      act = decision m.id q hop a;
-      grown = starts t.place.number _ _ refl refl;
-      kind = decision-kind m.id q hop a;
-      goes = decision-goes m.id q hop a;
-      touches = touches-message m.id (Cargo.Try m q route only hop) (decision m.id q hop a) t (decision-message m.id q hop a) (λ x. refl) (λ r. refl);
-    }
-opened from (Cargo.Verdict x q route answer) t is =
-    let p = t.place.number in
-    let base = next_entry (Act.Told x answer) t ∷ t.place.journal in
-    let k : Key = record { port = q; route = route } in
-    let u : Turn = told_turn x q k answer t in
-    record {
-      act = Act.Told x answer;
-      grown = go-keeps (Grown p base) (λ a c u n same h. grown-on p base a c u h) k u (starts p base u refl refl);
-      kind = refl;
-      goes = refl;
-      touches = touches-message x (Cargo.Verdict x q route answer) (Act.Told x answer) t refl (λ y. refl) (λ r. refl);
-    }
-opened from (Cargo.Transfer port) t is =
-    record {
-      act = Act.Arrive port.ui port.hop;
-      grown = starts t.place.number _ _ refl refl;
-      kind = refl;
-      goes = refl;
-      touches = touches;
-    }
+opened from c t is = by c is
   where
-    touches : (s : Subject) → holds s (Cargo.Transfer port) ≡ true → test_of s (next_entry (Act.Arrive port.ui port.hop) t) ≡ true
-    touches (Of x) h = absurd (false≢true h)
-    touches (With q) h = ui_sym q port.ui ∙ h
-opened from (Cargo.Ask m (D.Port q)) t is = absurd is
-opened from (Cargo.Ask m (D.All g)) t is = chosen m (D.All g) g from (choice (D.All g) t.place) t is
-opened from (Cargo.Ask m (D.One g)) t is = chosen m (D.One g) g from (choice (D.One g) t.place) t is
-opened from (Cargo.Ask m (D.OneAt g site)) t is = chosen m (D.OneAt g site) g from (choice (D.OneAt g site) t.place) t is
-opened from (Cargo.Report x answer) t is =
-    record {
-      act = Act.Heard x answer;
-      grown = starts t.place.number _ _ refl refl;
-      kind = refl;
-      goes = refl;
-      touches = touches-message x (Cargo.Report x answer) (Act.Heard x answer) t refl (λ y. refl) (λ r. refl);
-    }
+    step : (c : Cargo) (s : Step) → opening from c t ≡ Some s → Says c s t → Opened c t (opens from c t)
+    step c = opened-by (record { clock = 0; from = from; cargo = c }) t
+
+    by : (c : Cargo) → IsOfGroup c → Opened c t (opens from c t)
+    by (Cargo.Try m q route only hop) is =
+        let a = decide m q only hop t.place in
+        step (Cargo.Try m q route only hop) (AnswersTry from m q route only hop) refl (record {
+          kind = decision-kind m.id q hop a;
+          goes = decision-goes m.id q hop a;
+          touches = touches-message m.id (Cargo.Try m q route only hop) (decision m.id q hop a) t (decision-message m.id q hop a) (λ x. refl) (λ r. refl);
+        })
+    by (Cargo.Verdict x q route answer) is =
+        step (Cargo.Verdict x q route answer) (HearsVerdict x (record { port = q; route = route }) answer) refl (record {
+          kind = refl;
+          goes = refl;
+          touches = touches-message x (Cargo.Verdict x q route answer) (Act.Told x answer) t refl (λ y. refl) (λ r. refl);
+        })
+    by (Cargo.Transfer port) is = step (Cargo.Transfer port) (Receives port) refl (record { kind = refl; goes = refl; touches = touches })
+      where
+        touches : (s : Subject) → holds s (Cargo.Transfer port) ≡ true → test_of s (next_entry (Act.Arrive port.ui port.hop) t) ≡ true
+        touches (Of x) h = absurd (false≢true h)
+        touches (With q) h = ui_sym q port.ui ∙ h
+    by (Cargo.Ask m (D.Port q)) is = absurd is
+    by (Cargo.Ask m (D.All g)) is = let qs = choice (D.All g) t.place in step (Cargo.Ask m (D.All g)) (Chooses m (D.All g) g from qs) refl (chosen m (D.All g) g from qs t)
+    by (Cargo.Ask m (D.One g)) is = let qs = choice (D.One g) t.place in step (Cargo.Ask m (D.One g)) (Chooses m (D.One g) g from qs) refl (chosen m (D.One g) g from qs t)
+    by (Cargo.Ask m (D.OneAt g n)) is = let qs = choice (D.OneAt g n) t.place in step (Cargo.Ask m (D.OneAt g n)) (Chooses m (D.OneAt g n) g from qs) refl (chosen m (D.OneAt g n) g from qs t)
+    by (Cargo.Report x answer) is =
+        step (Cargo.Report x answer) (Hears x answer) refl
+        (record { kind = refl; goes = refl; touches = touches-message x (Cargo.Report x answer) (Act.Heard x answer) t refl (λ y. refl) (λ r. refl) })

@@ -1,5 +1,5 @@
 -- A turn with a command.
-use Rattle.std.proofs.Common.{ℕ, ◌≡◌, ◌≤◌, ◌<◌, ◌+◌, ◌==◌, nat_le, Bool, true, false, ◌&&◌, not, cond, List, [], ◌∷◌, ◌++◌, length, Option, Some, None, IfSome, refl, subst, arith, leb-true, All}
+use Rattle.std.proofs.Common.{ℕ, ◌≡◌, ◌≤◌, ◌<◌, ◌+◌, ◌==◌, nat_le, Bool, true, false, ◌&&◌, cond, List, [], ◌∷◌, ◌++◌, length, Option, Some, None, IfSome, refl, subst, arith, leb-true, All}
 use Rattle.std.proofs.lemmas.Bool.{and_parts, and_from, le-leb}
 use Rattle.std.proofs.lemmas.Bool.Decides.{nat_tests}
 use Rattle.std.proofs.lemmas.List.Elements.{All-nil, All-cons, All-push}
@@ -9,8 +9,7 @@ use Rattle.chorus_ui.specs.declared.kind.Kind.TheVariants as kinds
 use Rattle.chorus_ui.specs.Kind.{same_kind}
 use Rattle.chorus_ui.specs.Name.{same_ui}
 use Rattle.chorus_ui.proofs.Names.{from_same_ui}
-use Rattle.chorus_ui.specs.Layout.{has_site, has_actor, place_at, site_of}
-use Rattle.chorus_ui.specs.declared.limits.TheConstants.{GROUPS_PER_SITE_LIMIT}
+use Rattle.chorus_ui.specs.Layout.{has_site}
 use Rattle.chorus_entry.specs.declared.id.MsgId.{MsgId}
 use Rattle.chorus_entry.specs.declared.hand.Hand.{Hand}
 use Rattle.chorus_entry.specs.declared.tag.Tag.{Tag}
@@ -21,7 +20,6 @@ use Rattle.chorus_entry.specs.declared.dest.Dest.TheVariants as dests
 use Rattle.chorus_entry.specs.declared.act.Act.{Act}
 use Rattle.chorus_entry.specs.declared.act.Act.TheVariants as acts
 use Rattle.chorus_entry.specs.declared.command.Command.{Command}
-use Rattle.chorus_entry.specs.declared.command.Command.TheVariants as commands
 use Rattle.chorus_entry.specs.declared.packet.Cargo.{Cargo}
 use Rattle.chorus_entry.specs.declared.record.PortRecord.{PortRecord}
 use Rattle.chorus_entry.specs.PortRecord.{new_record}
@@ -30,17 +28,13 @@ use Rattle.chorus_ui.specs.NameKind as name_kind
 use Rattle.chorus_ui.specs.NameKind.{is_actor, is_port}
 use Rattle.chorus_entry.specs.Kinds.{has_kinds_in_tag, has_kinds_in_dest}
 use Rattle.chorus_entry.specs.Command.{is_capacity, demands_a_site, meets_conditions, has_body_in_limit}
-use Rattle.chorus_entry.specs.Members.{is_member}
 use Rattle.chorus_entry.specs.Members.{without as without_member}
 use Rattle.chorus_entry.specs.Ranges.{is_place_number, has_range_of_tag, has_ranges_of_message, is_demanded_site, is_asked}
 use Rattle.chorus_world.specs.Places.{last_clock}
-use Rattle.chorus_world.specs.Groups.{members, members_after, groups_made}
-use Rattle.chorus_world.specs.Steps.{is_full_of_ports}
+use Rattle.chorus_world.specs.Groups.{members, members_after}
 use Rattle.chorus_world.specs.Views.{is_group}
-use Rattle.chorus_ports.specs.declared.taking.Taken.{Taken}
-use Rattle.chorus_ports.specs.declared.taking.Taken.TheVariants as takings
 use Rattle.chorus_ports.specs.Table.{find, replace, without}
-use Rattle.chorus_ports.specs.Taking.{taken, after_take, rehomed}
+use Rattle.chorus_ports.specs.Taking.{after_take, rehomed}
 use Rattle.chorus_ports.specs.History.{migrated}
 use Rattle.chorus_calls.specs.Clients.{Call, IsRequest, is_outstanding, after_cancel}
 use Rattle.chorus_calls.specs.Callers.{Seated, with_client}
@@ -48,10 +42,11 @@ use Rattle.chorus_hints.specs.Known.{learned}
 use Rattle.place_unsettled.specs.Queues.{changed, with_last}
 use Rattle.place_unsettled.specs.Unheard.{asked}
 use Rattle.law_machine.specs.PlaceState.{Turn, next_clock, unchanged, say, note}
-use Rattle.law_machine.specs.Own.{own, next_port, make_act, group_act, next_group, join_act, leave_act, take_act, held_by, move_act, delete_act, next_message, call_act, retry_act, cancel_act, reply_act}
+use Rattle.law_machine.specs.Own.{own, next_message}
 use Rattle.law_machine.specs.Doing.{does, posts, posts_to_group, chooses_own, asks, choosing_place, poster, direct, post, takes, first_message, holding, ends, departs, transfer_to}
 use Rattle.law_machine.specs.PlaceMachine.{act}
 use Rattle.law_bounds.specs.Bounds.{IsPortWithin, IsWaitWithin, AreMembersWithin, IsCallerWithin, IsTurnWithin}
+use Rattle.law_machine.proofs.Machine.Owns.{IsOwn, held-is, Makes, Sends, Calls, Retries, Replies, Rehomes, Departs, Joins, is-own}
 use Rattle.law_bounds.proofs.Ranges.{standing-within, message-from}
 use Rattle.law_bounds.proofs.Ports as ports
 use Rattle.law_bounds.proofs.Entries.{IsLoadWithin, clock-later, says, ports-still, known-still, still, notes, learned-within, waiting-changed}
@@ -86,118 +81,39 @@ next-within tag body c t k b =
       body = le-leb (length body) 4096 b;
     })
 
+some-of : {X : Type 0} (P : X → Type 0) {o : Option X} (x : X) → o ≡ Some x → IfSome o P → P x
+some-of P x e h = subst (λ o. IfSome o P) e h
+
 module _ (t : Turn) (h : IsTurnWithin t) where
-  made : (actor : Ui) (capacity : ℕ) → is_actor actor ≡ true → is_capacity capacity ≡ true → IsOwnWithin (make_act actor capacity t.place) t
-  made actor capacity named size = by (has_actor t.place.layout actor) (is_full_of_ports t.place.layout t.place.journal)
-    where
-      by : (a f : Bool) → IsOwnWithin (cond (not a) (acts.NoActor actor) (cond f (acts.MakeFull actor) (acts.Make (next_port t.place actor) actor capacity))) t
-      by false f = tt
-      by true true = tt
-      by true false = (refl, named, size)
-
-  called : (q back : Ui) (body : List ℕ) (o : Option Call) → is_port q ≡ true → is_port back ≡ true → length body ≤ 4096 → IsOwnWithin (call_act q back body t.caller o) t
-  called q back body None port to le = (next-within (tags.Request (t.caller.client.given + 1) back) body t.caller (le-leb 1 (t.caller.client.given + 1) (omega arith)) to le, port, refl)
-  called q back body (Some call) port to le = tt
-
-  retried : (o : Option Call) → IfSome o IsRequest → IfSome o (λ call. length call.body ≤ 4096) → IsOwnWithin (retry_act t.caller o) t
-  retried None r b = tt
-  retried (Some call) r b =
-      (next-within (tags.Request call.number call.back) call.body t.caller (le-leb 1 call.number r.number) (kind-same call.back.kind kinds.Port r.back) b, kind-same call.port.kind kinds.Port r.port, refl)
-
-  cancelled : (o : Option Call) → IsOwnWithin (cancel_act o) t
-  cancelled None = tt
-  cancelled (Some call) = tt
-
-  replied : (body : List ℕ) (o : Option Hand) → length body ≤ 4096 → IfSome o (λ hand. 1 ≤ hand.number) → IfSome o (λ hand. hand.back.kind ≡ kinds.Port) → IsOwnWithin (reply_act body t.caller o) t
-  replied body None le n b = tt
-  replied body (Some hand) le n b = (next-within (tags.Reply hand.client hand.number) body t.caller (le-leb 1 hand.number n) refl le, kind-same hand.back.kind kinds.Port b, refl)
-
-  took : (q : Ui) (o : Taken) → IsOwnWithin (take_act q o) t
-  took q (takings.Message pos m) = tt
-  took q takings.Empty = tt
-  took q takings.NotHere = tt
-
-  moved : (q actor : Ui) → is_actor actor ≡ true → IsOwnWithin (move_act q actor t.place (held_by t.caller.actor (find q t.place.ports))) t
-  moved q actor named = by (find q t.place.ports) refl
-    where
-      -- a port that is held
-      from : (r : PortRecord) → find q t.place.ports ≡ Some r → IsOwnWithin (move_act q actor t.place (Some r)) t
-      from r e = go (has_actor t.place.layout actor) refl (actor.site == site_of t.place.layout t.place.number)
-        where
-          to : has_actor t.place.layout actor ≡ true → is_place_number (place_at t.place.layout actor.site q) ≡ true
-          to a =
-              let three = and_parts (has_site t.place.layout actor.site && nat_le 1 actor.number) (nat_le actor.number 8) a in
-              standing-within t.place.layout actor.site q h.place.layout (and_parts (has_site t.place.layout actor.site) (nat_le 1 actor.number) three.0).0
-
-          hop : r.hop + 1 ≤ next_clock t
-          hop =
-              let p = ports.parts (last_clock t.place.journal) r (ports.all-found (IsPortWithin (last_clock t.place.journal)) q t.place.ports r h.place.ports e) in
-              let one = leb-true r.hop (last_clock t.place.journal) p.hop in
-              let two = clock-later t in
-              omega (arith, one, two)
-
-          go : (a : Bool) → has_actor t.place.layout actor ≡ a → (b : Bool) → IsOwnWithin (cond (not a) (acts.NoActor actor) (cond b (acts.Rehome q actor) (acts.Depart q (place_at t.place.layout actor.site q) actor (r.hop + 1)))) t
-          go false a b = tt
-          go true a true = named
-          go true a false = (to a, named, hop)
-
-      held : (b : Bool) (r : PortRecord) → find q t.place.ports ≡ Some r → IsOwnWithin (move_act q actor t.place (cond b (Some r) None)) t
-      held true r e = from r e
-      held false r e = tt
-
-      by : (o : Option PortRecord) → find q t.place.ports ≡ o → IsOwnWithin (move_act q actor t.place (held_by t.caller.actor o)) t
-      by None e = tt
-      by (Some r) e = held (same_ui r.actor t.caller.actor) r e
-
-  deleted : (q : Ui) (o : Option PortRecord) → IsOwnWithin (delete_act q o) t
-  deleted q None = tt
-  deleted q (Some r) = tt
-
-  grouped : (site : ℕ) → IsOwnWithin (group_act site t.place) t
-  grouped site = by (has_site t.place.layout site) (nat_le GROUPS_PER_SITE_LIMIT (groups_made t.place.journal))
-    where
-      by : (a b : Bool) → IsOwnWithin (cond (not a) (acts.NoSite site) (cond b (acts.GroupsFull site) (acts.GroupMake (next_group t.place site)))) t
-      by false b = tt
-      by true true = tt
-      by true false = tt
-
-  joins : (g q : Ui) → is_port q ≡ true → IsOwnWithin (join_act g q t.place) t
-  joins g q port = by (is_group g t.place.journal) (is_member q (members g t.place.journal)) (nat_le 32 (length (members g t.place.journal))) refl
-    where
-      room : nat_le 32 (length (members g t.place.journal)) ≡ false → (f : Ui) → same_ui g f ≡ true → length (members f t.place.journal) < 32
-      room e f s = subst (λ z. length (members z t.place.journal) < 32) (from_same_ui g f s) (grind (arith, nat_tests, e))
-
-      by : (a b c : Bool) → nat_le 32 (length (members g t.place.journal)) ≡ c → IsOwnWithin (cond (not a) (acts.NoGroup g) (cond b (acts.There g q) (cond c (acts.MembersFull g) (acts.Join g q)))) t
-      by false b c e = tt
-      by true true c e = tt
-      by true false true e = tt
-      by true false false e = (port, room e)
-
-  leaves : (g q : Ui) → IsOwnWithin (leave_act g q t.place) t
-  leaves g q = by (is_group g t.place.journal) (is_member q (members g t.place.journal))
-    where
-      by : (a b : Bool) → IsOwnWithin (cond (not a) (acts.NoGroup g) (cond b (acts.Leave g q) (acts.NotThere g q))) t
-      by false b = tt
-      by true true = tt
-      by true false = tt
-
-  own-within : (c : Command) → meets_conditions c ≡ true → has_body_in_limit c ≡ true → IsCallerWithin t.caller → IsOwnWithin (own c t) t
-  own-within (commands.Make actor capacity) m b k = let two = and_parts (is_actor actor) (is_capacity capacity) m in made actor capacity two.0 two.1
-  own-within (commands.Send d body) m b k =
+  own-within : {c : Command} {a : Act} → IsOwn t c a → meets_conditions c ≡ true → has_body_in_limit c ≡ true → IsCallerWithin t.caller → IsOwnWithin a t
+  own-within (Makes actor capacity e f) m b k = let two = and_parts (is_actor actor) (is_capacity capacity) m in (refl, two.0, two.1)
+  own-within (Sends d body) m b k =
       let two = and_parts (has_kinds_in_dest d) (demands_a_site d) m in
       (next-within tags.Plain body t.caller refl refl (leb-true (length body) 4096 b), two.0, two.1)
-  own-within (commands.Call q back body) m b k =
+  own-within (Calls q back body e) m b k =
       let two = and_parts (is_port q) (is_port back) m in
-      called q back body t.caller.client.outstanding two.0 two.1 (leb-true (length body) 4096 b)
-  own-within commands.Retry m b k = retried t.caller.client.outstanding k.call k.body
-  own-within commands.Cancel m b k = cancelled t.caller.client.outstanding
-  own-within (commands.Reply body) m b k = replied body t.caller.hand (leb-true (length body) 4096 b) k.numbered k.back
-  own-within (commands.Take q) m b k = took q (taken t.caller.actor (find q t.place.ports))
-  own-within (commands.Move q actor) m b k = moved q actor (and_parts (is_port q) (is_actor actor) m).1
-  own-within (commands.GroupMake site) m b k = grouped site
-  own-within (commands.Join g q) m b k = joins g q (and_parts (name_kind.is_group g) (is_port q) m).1
-  own-within (commands.Leave g q) m b k = leaves g q
-  own-within (commands.Delete q) m b k = deleted q (held_by t.caller.actor (find q t.place.ports))
+      (next-within (tags.Request (t.caller.client.given + 1) back) body t.caller (le-leb 1 (t.caller.client.given + 1) (omega arith)) two.1 (leb-true (length body) 4096 b), two.0, refl)
+  own-within (Retries call e) m b k =
+      let r : IsRequest call = some-of (IsRequest) call e k.call in
+      let le : length call.body ≤ 4096 = some-of (λ (x : Call). length x.body ≤ 4096) call e k.body in
+      (next-within (tags.Request call.number call.back) call.body t.caller (le-leb 1 call.number r.number) (kind-same call.back.kind kinds.Port r.back) le, kind-same call.port.kind kinds.Port r.port, refl)
+  own-within (Replies body hand e) m b k =
+      let n : 1 ≤ hand.number = some-of (λ (x : Hand). 1 ≤ x.number) hand e k.numbered in
+      let back : hand.back.kind ≡ kinds.Port = some-of (λ (x : Hand). x.back.kind ≡ kinds.Port) hand e k.back in
+      (next-within (tags.Reply hand.client hand.number) body t.caller (le-leb 1 hand.number n) refl (leb-true (length body) 4096 b), kind-same hand.back.kind kinds.Port back, refl)
+  own-within (Rehomes q actor port e f g) m b k = (and_parts (is_port q) (is_actor actor) m).1
+  own-within (Departs q actor port e f g) m b k =
+      let found = (held-is t.caller.actor (find q t.place.ports) port e).0 in
+      let p = ports.parts (last_clock t.place.journal) port (ports.all-found (IsPortWithin (last_clock t.place.journal)) q t.place.ports port h.place.ports found) in
+      let one = leb-true port.hop (last_clock t.place.journal) p.hop in
+      let two = clock-later t in
+      let three = and_parts (has_site t.place.layout actor.site && nat_le 1 actor.number) (nat_le actor.number 8) f in
+      let to = standing-within t.place.layout actor.site q h.place.layout (and_parts (has_site t.place.layout actor.site) (nat_le 1 actor.number) three.0).0 in
+      (to, (and_parts (is_port q) (is_actor actor) m).1, omega (arith, one, two))
+  own-within (Joins g q e f r) m b k =
+      ((and_parts (name_kind.is_group g) (is_port q) m).1,
+      λ f s. subst (λ z. length (members z t.place.journal) < 32) (from_same_ui g f s) (grind (arith, nat_tests, r)))
+  own-within _ m b k = tt
 
   -- What follows from it.
 
@@ -336,4 +252,4 @@ module _ (t : Turn) (h : IsTurnWithin t) where
   does-within a o = notes a t (λ f qs. refl) h
 
 pub act-within : (c : Command) (t : Turn) → meets_conditions c ≡ true → has_body_in_limit c ≡ true → IsCallerWithin t.caller → IsTurnWithin t → IsTurnWithin (act c t)
-act-within c t m b k h = does-within t h (own c t) (own-within t h c m b k)
+act-within c t m b k h = does-within t h (own c t) (own-within t h (is-own c t) m b k)

@@ -1,7 +1,7 @@
 -- Deciding on messages, and trying those that wait.
 use Rattle.std.proofs.Common.{ℕ, ◌≡◌, ◌≤◌, ◌<◌, ◌+◌, ◌==◌, nat_le, nat_lt, Bool, true, false, ◌&&◌, not, cond, if◌then◌else◌, List, [], ◌∷◌, length, Option, Some, None, IfSome, refl, sym, ◌∙◌, ap, subst, arith, ltb-true, All}
 use Rattle.std.proofs.lemmas.Bool.{and_from, le-leb, eqb-true}
-use Rattle.std.proofs.lemmas.List.Elements.{All-nil, All-cons, All-head, All-tail, All-drop, All-weaker}
+use Rattle.std.proofs.lemmas.List.Elements.{All-nil, All-cons, All-head, All-drop, All-weaker}
 use Rattle.chorus_ui.specs.declared.ui.Ui.{Ui}
 use Rattle.chorus_ui.specs.Layout.{has_site, creation_place}
 use Rattle.chorus_entry.specs.declared.id.MsgId.{MsgId}
@@ -23,10 +23,11 @@ use Rattle.chorus_ports.specs.Deciding.{is_full, answer_to, enqueued}
 use Rattle.chorus_ports.specs.Table.{find}
 use Rattle.place_unsettled.specs.declared.wait.Key.{Key}
 use Rattle.place_unsettled.specs.declared.wait.Wait.{Wait}
-use Rattle.place_unsettled.specs.Queues.{changed, passed, at}
+use Rattle.place_unsettled.specs.Queues.{Queue, changed, passed, at}
 use Rattle.law_machine.specs.PlaceState.{PlaceState, Turn, location, newest, unchanged, greatest_clock, next_clock}
 use Rattle.law_machine.specs.Deciding.{answer_in, answer_moved, answer_away, answer_of, decide, decision, records_after}
-use Rattle.law_machine.specs.Trying.{report, settles_here, tries_at, verdict_here, tries, goes_on, goes_unless, go}
+use Rattle.law_machine.specs.Trying.{report, settles_here, tries_at, verdict_here, go}
+use Rattle.law_machine.proofs.Machine.Queues.{wait_for, go-goes}
 use Rattle.law_bounds.specs.Bounds.{IsPortWithin, IsPairWithin, IsWaitWithin, IsWithin, IsTurnWithin}
 use Rattle.law_bounds.proofs.Ranges.{answer-later, standing-within, message-parts}
 use Rattle.law_bounds.proofs.Ports as ports
@@ -130,16 +131,7 @@ module _ (clock : ℕ) (s : PlaceState) (m : Message) (q : Ui) (only : Option �
 
 pub decision-mute : (x : MsgId) (q : Ui) (tried : ℕ) (a : Answer) → IsMute (decision x q tried a)
 decision-mute x q tried (A.Accepted pos) g qs = refl
-decision-mute x q tried (A.Full len) g qs = refl
-decision-mute x q tried (A.Stale to hop) g qs = refl
-decision-mute x q tried (A.Early hop) g qs = refl
-decision-mute x q tried A.NoPort g qs = refl
-decision-mute x q tried A.Already g qs = refl
-decision-mute x q tried A.ClientsFull g qs = refl
-decision-mute x q tried (A.Elsewhere to hop) g qs = refl
-decision-mute x q tried A.Gone g qs = refl
-decision-mute x q tried A.NoMember g qs = refl
-decision-mute x q tried (A.Chosen n) g qs = refl
+decision-mute x q tried _ g qs = refl
 
 -- what is reported is in its range
 pub report-within : (clock p home : ℕ) (x : MsgId) (a : Answer) → has_range_of_id x ≡ true → has_ranges_of_answer clock a ≡ true → All (IsLoadWithin clock) (report p home x a)
@@ -224,24 +216,15 @@ module _ (k : Key) where
           (decided (greatest_clock t) t.place w.message k.port w.only (newest t.place k.port).hop h.place may.message (clock-later t) hop)
       by true s true false z = absurd (cc)
 
-  tries-within : (w : Wait) (on : Turn → Turn) (t : Turn) (o : Option Answer) → verdict_here k w (newest t.place k.port) t.place ≡ o → ((u : Turn) → IsTurnWithin u → IsTurnWithin (on u))
-      → IsWaitWithin k w → IsTurnWithin t → IsTurnWithin (tries k w (newest t.place k.port) on o t)
-  tries-within w on t (Some a) e next may h =
-      next (settles_here k w (newest t.place k.port).hop a t) (settles-within w (newest t.place k.port).hop a t may h (verdict-within w t a may h e))
-  tries-within w on t None e next may h =
-      let one = (newest-within t.place k.port h.place).hop in
-      let two = clock-later t in
-      tries-at-within w (newest t.place k.port) t may h (omega (arith, one, two))
-
-  goes-on-within : (ws : List Wait) (t : Turn) → All (IsWaitWithin k) ws → IsTurnWithin t → IsTurnWithin (goes_on k ws t)
-  goes-on-within [] t all h = h
-  goes-on-within (w ∷ ws) t all h =
-      tries-within w (goes_on k ws) t (verdict_here k w (newest t.place k.port) t.place) refl (λ u g. goes-on-within ws u (All-tail (IsWaitWithin k) w ws all) g)
-      (All-head (IsWaitWithin k) w ws all) h
+  -- the first one that waits is in its ranges, as all are
+  first-within : (w : Wait) (ws : List Wait) (t : Turn) → wait_for k (w ∷ ws) t → IsTurnWithin t → IsWaitWithin k w
+  first-within w ws t e h = All-head (IsWaitWithin k) w ws (subst (λ (q : Queue). All (IsWaitWithin k) q.waits) e (h.place.waiting k))
 
   pub go-within : (t : Turn) → IsTurnWithin t → IsTurnWithin (go k t)
-  go-within t h = by (t.place.waiting k).tried
-    where
-      by : (o : Option ℕ) → IsTurnWithin (goes_unless k o (t.place.waiting k).waits t)
-      by None = goes-on-within (t.place.waiting k).waits t (h.place.waiting k) h
-      by (Some to) = h
+  go-within =
+      go-goes k IsTurnWithin
+      (λ w ws a t e f h. let may = first-within w ws t e h in settles-within w (newest t.place k.port).hop a t may h (verdict-within w t a may h f))
+      (λ w ws t e f h.
+      let one = (newest-within t.place k.port h.place).hop in
+      let two = clock-later t in
+      tries-at-within w (newest t.place k.port) t (first-within w ws t e h) h (omega (arith, one, two)))

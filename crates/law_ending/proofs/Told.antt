@@ -27,6 +27,4 @@ packet-told n past shape s a b k first = go k.cargo refl
           own = λ none. ap (home past) t.id ∙ ap home_from o.posted ∙ o.place (t.way ∙ none) ∙ sym (number-is n.layout b n.places);
         }
     go (cargos.Try m q r only h) e = tt
-    go (cargos.Transfer port) e = tt
-    go (cargos.Ask m d) e = tt
-    go (cargos.Report z v) e = tt
+    go _ e = tt

@@ -1,11 +1,10 @@
 -- A command's own act: the act of its first entry, which answers it. The refusals stand in the order in which they are
 -- tested. s is the place, t the turn, q a port, g a group; `port` is the record of a port.
-use Rattle.std.specs.Prelude.{ℕ, ◌+◌, ◌==◌, nat_le, not, if◌then◌else◌, List, map, length, Option, Some, None}
+use Rattle.std.specs.Prelude.{ℕ, ◌+◌, ◌==◌, not, if◌then◌else◌, List, map, Option, Some, None}
 use Rattle.chorus_ui.specs.declared.kind.Kind.TheVariants as kinds
 use Rattle.chorus_ui.specs.declared.ui.Ui.{Ui}
 use Rattle.chorus_ui.specs.Name.{same_ui}
-use Rattle.chorus_ui.specs.Layout.{has_site, has_actor, place_at, site_of}
-use Rattle.chorus_ui.specs.declared.limits.TheConstants.{GROUPS_PER_SITE_LIMIT, MEMBERS_LIMIT}
+use Rattle.chorus_ui.specs.Layout.{has_actor, place_at, site_of}
 use Rattle.chorus_entry.specs.declared.hand.Hand.{Hand}
 use Rattle.chorus_entry.specs.declared.tag.Tag.{Tag}
 use Rattle.chorus_entry.specs.declared.dest.Dest.{Dest}
@@ -13,10 +12,9 @@ use Rattle.chorus_entry.specs.declared.message.Message.{Message}
 use Rattle.chorus_entry.specs.declared.command.Command.{Command}
 use Rattle.chorus_entry.specs.declared.act.Act.{Act}
 use Rattle.chorus_entry.specs.declared.record.PortRecord.{PortRecord}
-use Rattle.chorus_world.specs.Views.{is_group}
-use Rattle.chorus_world.specs.Groups.{groups_made, members}
-use Rattle.chorus_entry.specs.Members.{is_member}
-use Rattle.chorus_world.specs.Steps.{next_number, is_full_of_ports}
+use Rattle.chorus_world.specs.Groups.{groups_made}
+use Rattle.chorus_world.specs.Steps.{next_number}
+use Rattle.chorus_world.specs.Answer.{make_for, group_for, join_for, leave_for}
 use Rattle.chorus_ports.specs.declared.taking.Taken.{Taken}
 use Rattle.chorus_ports.specs.declared.taking.Taken.TheVariants as takes
 use Rattle.chorus_ports.specs.Table.{find}
@@ -31,36 +29,9 @@ use Rattle.law_machine.specs.PlaceState.{PlaceState, Turn}
 abbrev pub next_port : PlaceState → Ui → Ui
 next_port s actor = record { site = actor.site; kind = kinds.Port; number = next_number s.layout s.number s.journal }
 
-abbrev pub make_act : Ui → ℕ → PlaceState → Act
-make_act actor capacity s =
-    if not (has_actor s.layout actor) then Act.NoActor actor
-    else if is_full_of_ports s.layout s.journal then Act.MakeFull actor
-    else Act.Make (next_port s actor) actor capacity
-
 -- the name of the next group of a site, whose first place this is
 abbrev pub next_group : PlaceState → ℕ → Ui
 next_group s site = record { site = site; kind = kinds.Group; number = groups_made s.journal + 1 }
-
-abbrev pub group_act : ℕ → PlaceState → Act
-group_act site s =
-    if not (has_site s.layout site) then Act.NoSite site
-    else if nat_le GROUPS_PER_SITE_LIMIT (groups_made s.journal) then Act.GroupsFull site
-    else Act.GroupMake (next_group s site)
-
--- Joining and leaving.
-
-abbrev pub join_act : Ui → Ui → PlaceState → Act
-join_act g q s =
-    if not (is_group g s.journal) then Act.NoGroup g
-    else if is_member q (members g s.journal) then Act.There g q
-    else if nat_le MEMBERS_LIMIT (length (members g s.journal)) then Act.MembersFull g
-    else Act.Join g q
-
-abbrev pub leave_act : Ui → Ui → PlaceState → Act
-leave_act g q s =
-    if not (is_group g s.journal) then Act.NoGroup g
-    else if is_member q (members g s.journal) then Act.Leave g q
-    else Act.NotThere g q
 
 -- Receiving, moving and deleting, where the caller's actor holds the port here.
 
@@ -116,7 +87,7 @@ reply_act body caller (Some hand) =
 
 -- the act that answers the command
 abbrev pub own : Command → Turn → Act
-own (Command.Make actor capacity) t = make_act actor capacity t.place
+own (Command.Make actor capacity) t = make_for t.place.layout t.place.number t.place.journal actor capacity
 own (Command.Send d body) t = Act.Post (next_message Tag.Plain body t.caller) d
 own (Command.Call q back body) t = call_act q back body t.caller t.caller.client.outstanding
 own Command.Retry t = retry_act t.caller t.caller.client.outstanding
@@ -124,7 +95,7 @@ own Command.Cancel t = cancel_act t.caller.client.outstanding
 own (Command.Reply body) t = reply_act body t.caller t.caller.hand
 own (Command.Take q) t = take_act q (taken t.caller.actor (find q t.place.ports))
 own (Command.Move q actor) t = move_act q actor t.place (held_by t.caller.actor (find q t.place.ports))
-own (Command.GroupMake site) t = group_act site t.place
-own (Command.Join g q) t = join_act g q t.place
-own (Command.Leave g q) t = leave_act g q t.place
+own (Command.GroupMake site) t = group_for t.place.layout t.place.journal site
+own (Command.Join g q) t = join_for t.place.journal g q
+own (Command.Leave g q) t = leave_for t.place.journal g q
 own (Command.Delete q) t = delete_act q (held_by t.caller.actor (find q t.place.ports))

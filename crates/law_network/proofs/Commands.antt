@@ -1,3 +1,2 @@
-pub mod OwnAnswers
-pub mod Answered
+pub mod OwnIsAnswer
 pub mod Performing

@@ -1,12 +1,12 @@
 -- The place machine with more sites: what a turn does at a place of one layout it does at the same place of a layout of more
 -- sites, where each name that it tests is of a site that both have.
 -- l is a layout, n a number of sites, s a place, t a turn, q a port, g a group, k a port and route.
-use Rattle.std.proofs.Common.{ℕ, ◌≡◌, ◌+◌, ◌==◌, nat_le, Bool, true, false, ◌&&◌, not, cond, List, [], ◌∷◌, find, drop, take, length, Option, Some, None, unwrap_or, refl, sym, ◌∙◌, ap, subst}
+use Rattle.std.proofs.Common.{ℕ, ◌≡◌, ◌+◌, ◌==◌, nat_le, Bool, true, false, ◌&&◌, not, cond, List, [], ◌∷◌, find, drop, take, Option, Some, None, unwrap_or, refl, sym, ◌∙◌, ap, subst}
 use Rattle.std.specs.List.{All}
 use Rattle.std.proofs.lemmas.List.Elements.{All-nil, All-cons, All-head, All-tail, All-append, All-drop, All-take, All-weaker}
 use Rattle.chorus_ui.specs.declared.ui.Ui.{Ui}
 use Rattle.chorus_ui.specs.declared.layout.Layout.{Layout}
-use Rattle.chorus_ui.specs.declared.limits.TheConstants.{ACTORS_PER_SITE_LIMIT, GROUPS_PER_SITE_LIMIT, MEMBERS_LIMIT}
+use Rattle.chorus_ui.specs.declared.limits.TheConstants.{ACTORS_PER_SITE_LIMIT, GROUPS_PER_SITE_LIMIT}
 use Rattle.chorus_ui.specs.Layout.{has_site, has_actor, creation_place, first_place, place_at, site_of, group_place}
 use Rattle.chorus_entry.specs.declared.id.MsgId.{MsgId}
 use Rattle.chorus_entry.specs.declared.hand.Hand.{Hand}
@@ -24,17 +24,14 @@ use Rattle.chorus_entry.specs.declared.packet.Packet.{Packet}
 use Rattle.chorus_entry.specs.declared.packet.Cargo.{Cargo}
 use Rattle.chorus_entry.specs.declared.packet.Cargo.TheVariants as cargos
 use Rattle.chorus_entry.specs.declared.record.PortRecord.{PortRecord}
-use Rattle.chorus_entry.specs.Members.{first_of, is_member, listed}
-use Rattle.chorus_world.specs.Views.{is_group}
+use Rattle.chorus_entry.specs.Members.{first_of, listed}
 use Rattle.chorus_world.specs.declared.place.Location.{Location}
 use Rattle.chorus_world.specs.Places.{is_deleted, taught}
 use Rattle.chorus_world.specs.Posts.{is_on_site}
 use Rattle.chorus_world.specs.Groups.{groups_made, members, rotation, in_turn}
 use Rattle.chorus_world.specs.Steps.{is_full_of_ports}
-use Rattle.chorus_ports.specs.declared.taking.Taken.{Taken}
-use Rattle.chorus_ports.specs.declared.taking.Taken.TheVariants as takes
 use Rattle.chorus_ports.specs.Table.{find as find_port, replace}
-use Rattle.chorus_ports.specs.Taking.{after_take, taken}
+use Rattle.chorus_ports.specs.Taking.{after_take}
 use Rattle.chorus_calls.specs.Clients.{Call, is_outstanding, after_cancel}
 use Rattle.chorus_calls.specs.Callers.{Seated, with_client}
 use Rattle.place_unsettled.specs.declared.wait.Key.{Key}
@@ -44,7 +41,8 @@ use Rattle.law_machine.specs.PlaceState.{PlaceState, Turn, location, newest, unc
 use Rattle.law_machine.specs.Deciding.{answer_away, answer_of, decide}
 use Rattle.law_machine.specs.Trying.{settles_here, verdict_here, tries, goes_on, goes_unless, go}
 use Rattle.law_machine.specs.Choosing.{is_at_site, choice, by_group, all_go, chooses_all, chooses_these, chooses}
-use Rattle.law_machine.specs.Own.{own, next_port, next_group, take_act, held_by, move_act, delete_act, call_act, retry_act, cancel_act, reply_act}
+use Rattle.law_machine.specs.Own.{own, next_port, next_group, held_by, move_act}
+use Rattle.law_machine.proofs.Machine.Owns.{IsOwn, Sends, Calls, Retries, Replies, Joins, is-own}
 use Rattle.law_machine.specs.Doing.{direct, post, poster, choosing_place, chooses_own, asks, posts_to_group, posts, holding, first_message, ends_call, ends, takes as takes_of, does}
 use Rattle.law_machine.specs.Working.{answers_try, taught_of, told, report_of, answers_ask, opens}
 use Rattle.law_machine.specs.PlaceMachine.{act, work}
@@ -307,65 +305,16 @@ module _ (n : ℕ) where
       ap (λ b. cond (not b) (acts.NoSite site) (cond (nat_le GROUPS_PER_SITE_LIMIT (groups_made t.place.journal)) (acts.GroupsFull site) (acts.GroupMake (next_group t.place site)))) (has-same t.place.layout site h)
   own-same c t h = refl
 
-  either-within : (l : Layout) (b : Bool) (x y : Act) → ActWithin n l x → ActWithin n l y → ActWithin n l (cond b x y)
-  either-within l true x y h k = h
-  either-within l false x y h k = k
-
-  three-within : (l : Layout) (b c : Bool) (x y z : Act) → ActWithin n l x → ActWithin n l y → ActWithin n l z → ActWithin n l (cond b x (cond c y z))
-  three-within l b c x y z h k m = either-within l b x (cond c y z) h (either-within l c y z k m)
-
-  take-within : (l : Layout) (q : Ui) (o : Taken) → ActWithin n l (take_act q o)
-  take-within l q (takes.Message position m) = tt
-  take-within l q takes.Empty = tt
-  take-within l q takes.NotHere = tt
-
-  move-within : (l : Layout) (q actor : Ui) (s : PlaceState) (o : Option PortRecord) → ActWithin n l (move_act q actor s o)
-  move-within l q actor s None = tt
-  move-within l q actor s (Some port) =
-      three-within l (not (has_actor s.layout actor)) (actor.site == site_of s.layout s.number) (acts.NoActor actor) (acts.Rehome q actor) (acts.Depart q (place_at s.layout actor.site q) actor (port.hop + 1)) tt tt tt
-
-  delete-within : (l : Layout) (q : Ui) (o : Option PortRecord) → ActWithin n l (delete_act q o)
-  delete-within l q None = tt
-  delete-within l q (Some port) = tt
-
-  call-within : (l : Layout) (q back : Ui) (body : List ℕ) (caller : Seated) (o : Option Call) → Within n l q → Within n l back → ActWithin n l (call_act q back body caller o)
-  call-within l q back body caller None h k = (h, k)
-  call-within l q back body caller (Some call) h k = tt
-
-  retry-within : (l : Layout) (caller : Seated) (o : Option Call) → CallWithin n l o → ActWithin n l (retry_act caller o)
-  retry-within l caller None h = tt
-  retry-within l caller (Some call) h = h
-
-  cancel-within : (l : Layout) (o : Option Call) → ActWithin n l (cancel_act o)
-  cancel-within l None = tt
-  cancel-within l (Some call) = tt
-
-  reply-within : (l : Layout) (body : List ℕ) (caller : Seated) (o : Option Hand) → HandWithin n l o → ActWithin n l (reply_act body caller o)
-  reply-within l body caller None h = tt
-  reply-within l body caller (Some hand) h = (h, tt)
+  within : (l : Layout) {t : Turn} {c : Command} {a : Act} → IsOwn t c a → CommandWithin n l c → CallerWithin n l t.caller → ActWithin n l a
+  within l (Sends d body) h k = (h, tt)
+  within l (Calls q back body e) h k = h
+  within l (Retries call e) h k = subst (CallWithin n l) e k.call
+  within l (Replies body hand e) h k = (subst (HandWithin n l) e k.hand, tt)
+  within l (Joins g q e f r) h k = h.1
+  within l _ h k = tt
 
   pub own-within : (l : Layout) (c : Command) (t : Turn) → CommandWithin n l c → CallerWithin n l t.caller → ActWithin n l (own c t)
-  own-within l (Command.Make actor capacity) t h k =
-      let s = t.place in
-      three-within l (not (has_actor s.layout actor)) (is_full_of_ports s.layout s.journal) (acts.NoActor actor) (acts.MakeFull actor) (acts.Make (next_port s actor) actor capacity) tt tt tt
-  own-within l (Command.Send d body) t h k = (h, tt)
-  own-within l (Command.Call q back body) t h k = call-within l q back body t.caller t.caller.client.outstanding h.0 h.1
-  own-within l Command.Retry t h k = retry-within l t.caller t.caller.client.outstanding k.call
-  own-within l Command.Cancel t h k = cancel-within l t.caller.client.outstanding
-  own-within l (Command.Reply body) t h k = reply-within l body t.caller t.caller.hand k.hand
-  own-within l (Command.Take q) t h k = take-within l q (taken t.caller.actor (find_port q t.place.ports))
-  own-within l (Command.Move q actor) t h k = move-within l q actor t.place (held_by t.caller.actor (find_port q t.place.ports))
-  own-within l (Command.GroupMake site) t h k =
-      let s = t.place in
-      three-within l (not (has_site s.layout site)) (nat_le GROUPS_PER_SITE_LIMIT (groups_made s.journal)) (acts.NoSite site) (acts.GroupsFull site) (acts.GroupMake (next_group s site)) tt tt tt
-  own-within l (Command.Join g q) t h k =
-      let here = t.place.journal in
-      either-within l (not (is_group g here)) (acts.NoGroup g) (cond (is_member q (members g here)) (acts.There g q) (cond (nat_le MEMBERS_LIMIT (length (members g here))) (acts.MembersFull g) (acts.Join g q))) tt
-      (three-within l (is_member q (members g here)) (nat_le MEMBERS_LIMIT (length (members g here))) (acts.There g q) (acts.MembersFull g) (acts.Join g q) tt tt h.1)
-  own-within l (Command.Leave g q) t h k =
-      let here = t.place.journal in
-      three-within l (not (is_group g here)) (is_member q (members g here)) (acts.NoGroup g) (acts.Leave g q) (acts.NotThere g q) tt tt tt
-  own-within l (Command.Delete q) t h k = delete-within l q (held_by t.caller.actor (find_port q t.place.ports))
+  own-within l c t = within l (is-own c t)
 
   -- So a turn is the same.
 

@@ -67,103 +67,45 @@ module _ (n : ℕ) (eight : 8 ≤ n) where
 
     claim-same : (x : Line) → is_no_claim (scene_on n c) x ≡ is_no_claim c x
     claim-same (ClaimLine text) = refl
-    claim-same (SitesLine m) = refl
-    claim-same (VersionLine v) = refl
-    claim-same (PortLine u actor capacity) = refl
-    claim-same (GroupLine u) = refl
-    claim-same (MemberLine group port) = refl
-    claim-same (ScriptLine actor) = refl
-    claim-same (CommandLine command) = refl
-    claim-same ScheduleLine = refl
-    claim-same (StepLine step) = refl
-    claim-same EndLine = refl
+    claim-same _ = refl
 
     spelled-same : (x : Line) → is_misspelled (scene_on n c) x ≡ is_misspelled c x
     spelled-same (ClaimLine text) = refl
-    spelled-same (SitesLine m) = refl
-    spelled-same (VersionLine v) = refl
-    spelled-same (PortLine u actor capacity) = refl
-    spelled-same (GroupLine u) = refl
-    spelled-same (MemberLine group port) = refl
-    spelled-same (ScriptLine actor) = refl
-    spelled-same (CommandLine command) = refl
-    spelled-same ScheduleLine = refl
-    spelled-same (StepLine step) = refl
-    spelled-same EndLine = refl
+    spelled-same _ = refl
 
     beyond-same : (x : Line) → is_beyond (scene_on n c) x ≡ is_beyond c x
     beyond-same (SitesLine m) =
         ap (λ v. (m == 0) || nat_lt n m || nat_lt (most_sites v) m) one ∙ most-same m ∙ sym (ap (λ v. (m == 0) || nat_lt c.layout.sites m || nat_lt (most_sites v) m) one)
     beyond-same (VersionLine v) = refl
-    beyond-same (PortLine u actor capacity) = refl
-    beyond-same (GroupLine u) = refl
-    beyond-same (MemberLine group port) = refl
-    beyond-same (ScriptLine actor) = refl
-    beyond-same (CommandLine command) = refl
-    beyond-same (ClaimLine text) = refl
-    beyond-same ScheduleLine = refl
-    beyond-same (StepLine step) = refl
-    beyond-same EndLine = refl
+    beyond-same _ = refl
 
     dest-same : (d : Dest) (body : List ℕ) → command_is_unknown (scene_on n c) (Command.Send d body) ≡ command_is_unknown c (Command.Send d body)
     dest-same (dests.Port q) body = refl
-    dest-same (dests.All g) body = refl
-    dest-same (dests.One g) body = refl
-    dest-same (dests.OneAt g site) body = refl
+    dest-same _ body = refl
 
     command-same : (command : Command) → command_is_unknown (scene_on n c) command ≡ command_is_unknown c command
     command-same (Command.Send d body) = dest-same d body
     command-same (Command.Make actor capacity) = refl
-    command-same (Command.Call port back body) = refl
-    command-same Command.Retry = refl
-    command-same Command.Cancel = refl
-    command-same (Command.Reply body) = refl
-    command-same (Command.Take port) = refl
-    command-same (Command.Move port actor) = refl
-    command-same (Command.Delete port) = refl
-    command-same (Command.GroupMake site) = refl
-    command-same (Command.Join group port) = refl
-    command-same (Command.Leave group port) = refl
+    command-same _ = refl
 
     unknown-same : (x : Line) → names_unknown (scene_on n c) x ≡ names_unknown c x
     unknown-same (MemberLine group port) =
         ap (λ (names : List Ui). not (not (is_far c group) && is_member group names) || not (not (is_far c port) && is_member port names)) made-is
     unknown-same (CommandLine command) = command-same command
     unknown-same (ClaimLine text) = refl
-    unknown-same (SitesLine m) = refl
-    unknown-same (VersionLine v) = refl
-    unknown-same (PortLine u actor capacity) = refl
-    unknown-same (GroupLine u) = refl
-    unknown-same (ScriptLine actor) = refl
-    unknown-same ScheduleLine = refl
-    unknown-same (StepLine step) = refl
-    unknown-same EndLine = refl
+    unknown-same _ = refl
 
     repeats-same : (x : Line) → repeats (scene_on n c) x ≡ repeats c x
     repeats-same (PortLine u actor capacity) = ap (is_member u) made-is
     repeats-same (GroupLine u) = ap (is_member u) made-is
     repeats-same (MemberLine group port) = refl
-    repeats-same (CommandLine command) = refl
-    repeats-same (ClaimLine text) = refl
-    repeats-same (SitesLine m) = refl
-    repeats-same (VersionLine v) = refl
-    repeats-same (ScriptLine actor) = refl
-    repeats-same ScheduleLine = refl
-    repeats-same (StepLine step) = refl
-    repeats-same EndLine = refl
+    repeats-same _ = refl
 
     given-same : (x : Line) → is_not_given (scene_on n c) x ≡ is_not_given c x
     given-same (PortLine u actor capacity) = ap (λ (names : List Ui). not (same_ui u (next_port c.layout actor names))) made-is
     given-same (GroupLine u) = ap (λ (names : List Ui). not (same_ui u (next_group c.layout u.site names))) made-is
     given-same (MemberLine group port) = refl
-    given-same (CommandLine command) = refl
-    given-same (ClaimLine text) = refl
-    given-same (SitesLine m) = refl
-    given-same (VersionLine v) = refl
-    given-same (ScriptLine actor) = refl
-    given-same ScheduleLine = refl
-    given-same (StepLine step) = refl
-    given-same EndLine = refl
+    given-same _ = refl
 
     step-same : (x : step.Step) → cannot_go (scene_on n c) x ≡ cannot_go c x
     step-same (steps.Step k) = refl
@@ -173,15 +115,7 @@ module _ (n : ℕ) (eight : 8 ≤ n) where
     unscheduled-same : (x : Line) → is_unscheduled (scene_on n c) x ≡ is_unscheduled c x
     unscheduled-same (StepLine step) = step-same step
     unscheduled-same (PortLine u actor capacity) = refl
-    unscheduled-same (GroupLine u) = refl
-    unscheduled-same (MemberLine group port) = refl
-    unscheduled-same (CommandLine command) = refl
-    unscheduled-same (ClaimLine text) = refl
-    unscheduled-same (SitesLine m) = refl
-    unscheduled-same (VersionLine v) = refl
-    unscheduled-same (ScriptLine actor) = refl
-    unscheduled-same ScheduleLine = refl
-    unscheduled-same EndLine = refl
+    unscheduled-same _ = refl
 
     line-same : (x : Line) → judge_line (scene_on n c) x ≡ judge_line c x
     line-same x = rw (claim-same x, spelled-same x, beyond-same x, unknown-same x, repeats-same x, given-same x, unscheduled-same x) refl
@@ -196,16 +130,7 @@ module _ (n : ℕ) (eight : 8 ≤ n) where
 
   after-on : (s : State) (x : Line) → after (state_on n s) x ≡ state_on n (after s x)
   after-on s (SitesLine m) = refl
-  after-on s (VersionLine v) = refl
-  after-on s (PortLine u actor capacity) = refl
-  after-on s (GroupLine u) = refl
-  after-on s (MemberLine group port) = refl
-  after-on s (ScriptLine actor) = refl
-  after-on s (CommandLine command) = refl
-  after-on s (ClaimLine text) = refl
-  after-on s ScheduleLine = refl
-  after-on s (StepLine step) = refl
-  after-on s EndLine = refl
+  after-on s _ = refl
 
   bytes-same : (s : State) (bytes : List ℕ) → 8 ≤ s.scene.layout.sites → ((is_head s.section ≡ true) ⊎ (s.scene.version ≡ 1)) → judge_bytes (state_on n s) bytes ≡ judge_bytes s bytes
   bytes-same s bytes wide (inl e) =
@@ -235,28 +160,11 @@ module _ (n : ℕ) (eight : 8 ≤ n) where
 head-gone : (s : State) (x : Line) → is_head s.section ≡ false → Follows s x → ((after s x).scene.version ≡ s.scene.version) × (is_head (after s x).section ≡ false)
 head-gone s (VersionLine v) h f = absurd (let bad : true ≡ false = sym (ap is_head f) ∙ h in cc)
 head-gone s (SitesLine m) h f = (refl, refl)
-head-gone s (PortLine u actor capacity) h f = (refl, refl)
-head-gone s (GroupLine u) h f = (refl, refl)
-head-gone s (MemberLine group port) h f = (refl, refl)
-head-gone s (ScriptLine actor) h f = (refl, refl)
-head-gone s (CommandLine command) h f = (refl, refl)
-head-gone s (ClaimLine text) h f = (refl, refl)
-head-gone s ScheduleLine h f = (refl, refl)
-head-gone s (StepLine step) h f = (refl, refl)
-head-gone s EndLine h f = (refl, refl)
+head-gone s _ h f = (refl, refl)
 
 layout-kept : (s : State) (x : Line) → (after s x).scene.layout ≡ s.scene.layout
 layout-kept s (VersionLine v) = refl
-layout-kept s (SitesLine m) = refl
-layout-kept s (PortLine u actor capacity) = refl
-layout-kept s (GroupLine u) = refl
-layout-kept s (MemberLine group port) = refl
-layout-kept s (ScriptLine actor) = refl
-layout-kept s (CommandLine command) = refl
-layout-kept s (ClaimLine text) = refl
-layout-kept s ScheduleLine = refl
-layout-kept s (StepLine step) = refl
-layout-kept s EndLine = refl
+layout-kept s _ = refl
 
 -- what holds of the state behind a line that passes
 record Later (s u : State) : Type 0 where

@@ -12,7 +12,7 @@ use Rattle.chorus_world.proofs.Seats.Answered.{one-answers}
 use Rattle.chorus_calls.specs.Callers.{Seated}
 use Rattle.law_network.specs.Answering.{OwnActAnswers}
 use Rattle.law_network.specs.Stands.{actor_of}
-use Rattle.law_replies.proofs.OwnIsAnswer.{own-is}
+use Rattle.law_network.proofs.Commands.OwnIsAnswer.{own-is}
 
 -- who has an actor is a caller in it
 some-caller : (o : Option Seated) (a : Ui) → option_map (λ (c : Seated). c.actor) o ≡ Some a → (c : Seated) × (o ≡ Some c) × (c.actor ≡ a)

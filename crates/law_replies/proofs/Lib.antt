@@ -1,4 +1,3 @@
-pub mod OwnIsAnswer
 pub mod Answered
 pub mod Saying
 pub mod Posts

@@ -90,42 +90,19 @@ IsPlain _ = Unit {0}
 
 decision-step : (x : MsgId) (q : Ui) (h : ℕ) (a : Answer) → IsPlain a → IsStep x (decision x q h a)
 decision-step x q h (A.Accepted n) p = refl
-decision-step x q h (A.Full n) p = refl
-decision-step x q h (A.Early hop) p = refl
-decision-step x q h A.NoPort p = refl
-decision-step x q h A.Already p = refl
-decision-step x q h A.ClientsFull p = refl
-decision-step x q h A.Gone p = refl
 decision-step x q h (A.Stale to hop) p = absurd p
 decision-step x q h (A.Elsewhere to hop) p = absurd p
 decision-step x q h A.NoMember p = absurd p
 decision-step x q h (A.Chosen count) p = absurd p
+decision-step x q h _ p = refl
 
 decision-answered : (x : MsgId) (q : Ui) (h : ℕ) (a : Answer) → decided_reply x (answer_of (decision x q h a)) ≡ answered x (decision x q h a)
 decision-answered x q h (A.Accepted n) = refl
-decision-answered x q h (A.Full n) = refl
-decision-answered x q h (A.Early hop) = refl
-decision-answered x q h A.NoPort = refl
-decision-answered x q h A.Already = refl
-decision-answered x q h A.ClientsFull = refl
-decision-answered x q h A.Gone = refl
-decision-answered x q h (A.Stale to hop) = refl
-decision-answered x q h (A.Elsewhere to hop) = refl
-decision-answered x q h A.NoMember = refl
-decision-answered x q h (A.Chosen count) = refl
+decision-answered x q h _ = refl
 
 decision-about : (x : MsgId) (q : Ui) (h : ℕ) (a : Answer) → message_of (decision x q h a) ≡ Some x
 decision-about x q h (A.Accepted n) = refl
-decision-about x q h (A.Full n) = refl
-decision-about x q h (A.Early hop) = refl
-decision-about x q h A.NoPort = refl
-decision-about x q h A.Already = refl
-decision-about x q h A.ClientsFull = refl
-decision-about x q h A.Gone = refl
-decision-about x q h (A.Stale to hop) = refl
-decision-about x q h (A.Elsewhere to hop) = refl
-decision-about x q h A.NoMember = refl
-decision-about x q h (A.Chosen count) = refl
+decision-about x q h _ = refl
 
 not-below : (n : ℕ) → nat_lt n n ≡ false
 not-below n = grind arith
@@ -288,7 +265,9 @@ module _ (x : MsgId) (g : Ui) (base : List Entry) where
   all-go-apart : (qs : List Ui) (t : Turn) → Apart x g base t → Apart x g base (all_go g qs t)
   all-go-apart [] t p = p
   all-go-apart (q ∷ qs) t p =
-      all-go-apart qs (go (by_group g q) t) (go-goes (by_group g q) (Apart x g base) (settles-apart q) (leaves-apart q) t p)
+      all-go-apart qs (go (by_group g q) t)
+      (go-goes (by_group g q) (Apart x g base) (λ w ws a u e f. settles-apart q w ws (newest u.place q).hop a u e)
+      (λ w ws u e f. leaves-apart q w ws (newest u.place q) u e) t p)
 
 -- the copies of a post are others than the post
 copies-apart : (m : Message) (d : Dest) (g : Ui) (home n : ℕ) (qs : List Ui) (queues : Key → Queue) → m.id.copy ≡ 0 → 1 ≤ n → ((q : Ui) → NotIn m.id (queues (by_group g q))) → (q : Ui) → NotIn m.id (with_copies m d g home n qs queues (by_group g q))

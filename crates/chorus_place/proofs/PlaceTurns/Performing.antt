@@ -21,8 +21,9 @@ use Rattle.chorus_ports.specs.declared.taking.Taken.TheVariants as T
 use Rattle.chorus_ports.specs.Table.{find, replace}
 use Rattle.chorus_ports.specs.Taking.{taken, taken_from, first_at, passed, after_take}
 use Rattle.law_machine.specs.declared.reply.Reply.{Reply}
+use Rattle.chorus_world.specs.Answer.{make_for}
 use Rattle.law_machine.specs.PlaceState.{PlaceState, Turn, next_clock}
-use Rattle.law_machine.specs.Own.{own, make_act, next_port, take_act, held_by, delete_act}
+use Rattle.law_machine.specs.Own.{own, next_port, take_act, held_by, delete_act}
 use Rattle.law_machine.specs.Doing.{does, takes, with_ports, first_message, ends, holding}
 use Rattle.law_machine.specs.Replies.{reply_to, settling, taken_reply}
 use Rattle.chorus_place.specs.PlaceTables.Ports.{takes_from, ids_of}
@@ -53,7 +54,7 @@ has-home l a some = by (has_actor l a) some
     by true h = refl
     by false h = h
 
-pub making : (s : PlaceState) (a : Ui) (n : ℕ) → has_actor s.layout a ≡ true → is_full_of_ports s.layout s.journal ≡ false → make_act a n s ≡ Act.Make (next_port s a) a n
+pub making : (s : PlaceState) (a : Ui) (n : ℕ) → has_actor s.layout a ≡ true → is_full_of_ports s.layout s.journal ≡ false → make_for s.layout s.number s.journal a n ≡ Act.Make (next_port s a) a n
 making s a n actor few =
     ap (λ b. cond (not b) (Act.NoActor a) (cond (is_full_of_ports s.layout s.journal) (Act.MakeFull a) (Act.Make (next_port s a) a n))) actor
     ∙ ap (λ b. cond b (Act.MakeFull a) (Act.Make (next_port s a) a n)) few

@@ -73,8 +73,8 @@ ready-same j t u e h = subst (λ (q : Queue). q.tried ≡ None → q.waits ≡ [
 go-others : (k j : Key) (t : Turn) → same_key k j ≡ false → (go k t).place.waiting j ≡ t.place.waiting j
 go-others k j t n =
     go-goes k (λ (u : Turn). u.place.waiting j ≡ t.place.waiting j)
-    (λ w ws h a u e p. at-other k j passed u.place.waiting n ∙ p)
-    (λ w ws l u e p. at-other k j (at (Some l.to)) u.place.waiting n ∙ p) t refl
+    (λ w ws a u e f p. at-other k j passed u.place.waiting n ∙ p)
+    (λ w ws u e f p. at-other k j (at (Some (newest u.place k.port).to)) u.place.waiting n ∙ p) t refl
 
 module _ (k : Key) where
   tried-ready : (w : Wait) (l : Location) (t : Turn) → ReadyAt k (tries_at k w l t)

@@ -1,5 +1,5 @@
 -- The history of a schedule performs the commands of each caller, and so does the merge of the journals.
-use Rattle.std.proofs.Common.{ℕ, ◌≡◌, ◌≢◌, Bool, true, false, ◌==◌, ◌&&◌, not, cond, List, [], ◌∷◌, ◌++◌, length, Option, Some, None, slice_get, slice_set, refl, sym, ◌∙◌, ap, append_assoc}
+use Rattle.std.proofs.Common.{ℕ, ◌≡◌, ◌≢◌, Bool, true, false, ◌==◌, ◌&&◌, not, cond, List, [], ◌∷◌, ◌++◌, length, Option, Some, None, slice_get, slice_set, refl, sym, ◌∙◌, ap, subst, append_assoc}
 use Rattle.std.specs.List.{All}
 use Rattle.std.specs.Option.{option_map}
 use Rattle.std.proofs.lemmas.Bool.{eqb-true, eq-eqb, ne_eqb, false≢true, and_parts, and_from, and_left, and_right}
@@ -11,6 +11,7 @@ use Rattle.chorus_entry.specs.declared.entry.Entry.{Entry}
 use Rattle.chorus_entry.specs.declared.command.Command.{Command}
 use Rattle.chorus_entry.specs.declared.packet.Packet.{Packet}
 use Rattle.chorus_entry.specs.Act.{is_command_entry}
+use Rattle.chorus_entry.specs.Command.{meets_conditions, has_body_in_limit}
 use Rattle.chorus_world.specs.Views.{by, is_by}
 use Rattle.chorus_world.specs.Commands.{answers, is_own_of, performs}
 use Rattle.chorus_calls.specs.Callers.{Seated, new_caller}
@@ -22,12 +23,12 @@ use Rattle.law_machine.proofs.Machine.Stays.{act-stays, work-stays}
 use Rattle.law_network.specs.Packets.{first_on, rest_on}
 use Rattle.law_network.specs.Network.{NetState, Event, Enter, Act, Deliver, See, place, turn_for, ended, commanded, works_off, delivered, happened, schedule}
 use Rattle.law_network.specs.Stands.{actor_of}
-use Rattle.law_network.specs.Schedules.{may_give, may_happen, may_be, command_in, commands_of}
+use Rattle.law_network.specs.Schedules.{has_number_left, may_give, may_happen, may_be, command_in, commands_of}
 use Rattle.law_network.proofs.Places.Layouts.{schedule-keeps}
 use Rattle.law_network.specs.History.{history}
 use Rattle.law_network.proofs.Events.InOrder.{in-order}
 use Rattle.law_network.proofs.Events.Seeing.{shown-actors}
-use Rattle.law_network.proofs.Commands.OwnAnswers.{own-answers}
+use Rattle.law_network.proofs.Commands.OwnIsAnswer.{own-answers}
 use Rattle.law_network.proofs.Events.Said.{said, said_with, said_on, said_at, act-goes, work-goes, said-act, said-work, own-is}
 
 -- Entries that are not the seat's own.
@@ -189,7 +190,8 @@ module _ (l : Layout) (shape : IsLayout l) where
           let same : j ≡ k = eqb-true j k f in
           let layout = (schedule-keeps l es).layout in
           let actor : caller.actor ≡ a = (let both : Some caller.actor ≡ Some a = sym (ap actor_in e) ∙ ap (actor_of (schedule l es)) same ∙ h in cc) in
-          let answer = own-answers (schedule l es) (history l es) (in-order l es shape may).0 j caller e c in
+          let meets = (and_parts (meets_conditions c) (has_body_in_limit c) (and_parts (meets_conditions c && has_body_in_limit c) (has_number_left caller c) gives).0).0 in
+          let answer = own-answers (schedule l es) (history l es) j caller (subst IsLayout (sym layout) shape) (in-order l es shape may).0 e c meets in
           let t = turn_for c caller (schedule l es) in
           performs-act l k a c t (history l es) (commands_of k es) (seat ∙ same)
           (ap (λ (m : Layout). answers m (history l es) a c (next_entry (own c t) t)) (sym layout) ∙ ap (λ (b : Ui). answers (schedule l es).layout (history l es) b c (next_entry (own c t) t)) (sym actor) ∙ answer)

@@ -122,6 +122,4 @@ module _ (n : NetState) (past : List Entry) (shape : IsLayout n.layout) (s : Sta
             let t = is-told x q r v e in
             record { from = k.from; message = as_wait past t.head; rest = map (as_wait past) t.rest; is = told-queue x q r v t }
         go (cargos.Try m q r only h) e = tt
-        go (cargos.Transfer port) e = tt
-        go (cargos.Ask m d) e = tt
-        go (cargos.Report z v) e = tt
+        go _ e = tt

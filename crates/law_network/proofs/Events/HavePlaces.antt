@@ -40,7 +40,4 @@ module _ (l : Layout) (a : Ui) (shape : IsLayout l) (has : has_actor l a ≡ tru
   have-places (commands.Join g q) = at-group g (has_site l g.site) refl
   have-places (commands.Leave g q) = at-group g (has_site l g.site) refl
   have-places (commands.Send d body) = home
-  have-places (commands.Call q back body) = home
-  have-places commands.Retry = home
-  have-places commands.Cancel = home
-  have-places (commands.Reply body) = home
+  have-places _ = home

@@ -3,7 +3,7 @@ use Rattle.std.proofs.Common.{ℕ, ◌≡◌, ◌<◌, ◌≤◌, ◌⊎◌, inl
 use Rattle.std.specs.List.{filter, flat_map}
 use Rattle.std.proofs.lemmas.List.Concat.{flat_map-append}
 use Rattle.std.proofs.lemmas.List.Elements.{filter-append}
-use Rattle.std.proofs.lemmas.Bool.{and_parts, and_from, eqb-true, false≢true}
+use Rattle.std.proofs.lemmas.Bool.{and_from, eqb-true, false≢true}
 use Rattle.chorus_calls.specs.Callers.{after_post}
 use Rattle.chorus_ui.specs.declared.ui.Ui.{Ui}
 use Rattle.chorus_ui.specs.Name.{same_ui}
@@ -40,11 +40,10 @@ use Rattle.chorus_world.specs.Messages.{posted, progress, progress_after}
 use Rattle.chorus_world.specs.Places.{last_clock, sent_to, hears, is_heard}
 use Rattle.chorus_world.specs.Groups as groups
 use Rattle.chorus_world.specs.Groups.{posts_to, post_to, is_chosen, is_choosing_place, unchosen}
-use Rattle.chorus_world.specs.Steps.{may_tag, is_asking_place}
-use Rattle.chorus_world.proofs.Sorted.Local.{local_views}
+use Rattle.chorus_world.specs.Steps.{is_asking_place}
+use Rattle.chorus_world.proofs.Sorted.Local.{local_views, act_may_here}
 use Rattle.chorus_world.proofs.Steps.LegalLemmas.{skips, keeps}
 use Rattle.chorus_world.proofs.Messages.SendingLemmas.{at_same, same_id_sym, sent_as}
-use Rattle.chorus_entry.specs.Command.{demands_a_site}
 use Rattle.place_unsettled.specs.Unheard as unheards
 use Rattle.law_machine.specs.declared.outgoing.Outgoing.{Outgoing}
 use Rattle.law_machine.specs.PlaceState.{Turn, next_clock, next_entry, packed, unchanged, say}
@@ -52,6 +51,7 @@ use Rattle.law_machine.specs.Doing.{poster, choosing_place, chooses_own, asks, p
 use Rattle.law_machine.specs.PlaceMachine.{act}
 use Rattle.law_machine.specs.Own.{next_message}
 use Rattle.law_machine.proofs.Machine.Ready.{ReadyHere}
+use Rattle.law_network.proofs.Commands.OwnIsAnswer.{given-fits}
 use Rattle.law_network.specs.Packets.{is_link, put, put_all}
 use Rattle.law_network.specs.Network.{NetState}
 use Rattle.law_network.specs.Records.{message}
@@ -73,7 +73,7 @@ use Rattle.chorus_world.proofs.Groups.GroupFacts.{IsPostTo, unchosen-other, firs
 use Rattle.law_network.proofs.Groups.Choosing.{AreAsked, ToChoose, chooses-stand}
 use Rattle.law_network.proofs.Links.PacketViews.{put-asks}
 use Rattle.law_network.proofs.Standing.Leading.{Calm, LeadsOn, leads-one, behind-calm, rests-behind}
-use Rattle.law_network.proofs.Posts.Posting.{IsNew, unknown, post-now, may-post}
+use Rattle.law_network.proofs.Posts.Posting.{IsNew, unknown, post-now}
 
 -- nothing chooses for a message that no entry is about
 unknown-unchosen : (x : MsgId) (t : Entry → Bool) (es : List Entry) → about x es ≡ [] → is_chosen x (filter t es) ≡ false
@@ -131,8 +131,8 @@ not-asking l home g h = by (group_place l g) h
         by-place false j = (let bad : Some q ≡ None = j in absurd (cc))
 
 module _ (n : NetState) (us : List Outgoing) (past : List Entry) (t : Turn) (i : Calm n us past t) (m : Message) (new : IsNew past t m) (d : Dest) (g : Ui) (group : group_in d ≡ Some g) (unsent : sent_to m.id d ≡ []) (asked : posted t.place.number d ≡ Asked t.place.number d)
-    (home : place_at t.place.layout t.caller.actor.site t.caller.actor ≡ t.place.number) (kinds : (has_kinds_in_tag m.tag && has_kinds_in_dest d) ≡ true)
-    (tag : may_tag (local_views past past t.place.number t.caller.seat (acts.Post m d)) m d m.tag ≡ true) (caller : CallerSays past t (acts.Post m d) (poster m d t.caller)) where
+    (kinds : (has_kinds_in_tag m.tag && has_kinds_in_dest d) ≡ true)
+    (may_now : act_may_here t.place.layout (local_views past past t.place.number t.caller.seat (acts.Post m d)) t.place.number t.caller.seat (acts.Post m d) ≡ true) (caller : CallerSays past t (acts.Post m d) (poster m d t.caller)) where
   abbrev w : Stood n us past t
   w = i.stood
 
@@ -228,7 +228,7 @@ module _ (n : NetState) (us : List Outgoing) (past : List Entry) (t : Turn) (i :
       record {
         kinds = kinds;
         behind = behind-calm past p (acts.Post m d) i.rests;
-        may = may-post n us past t i m new d home tag;
+        may = may_now;
         fits = refl;
         looks = tt;
         message = omega (arith, zero-is);
@@ -424,7 +424,8 @@ module _ (n : NetState) (us : List Outgoing) (past : List Entry) (t : Turn) (rea
       let m = message-now in
       let e = next_entry (acts.Post m d) t in
       let mine = by t.caller.seat past in
-      to-group-stands n us past t (record { stood = i.stood; rests = i.rests }) m (record { seat = refl; number = refl; copy = refl }) d g group unsent asked home (and_parts (has_kinds_in_dest d) (demands_a_site d) i.conditions).0 refl
+      let f = given-fits n us past t (commands.Send d body) i in
+      to-group-stands n us past t (record { stood = i.stood; rests = i.rests }) m (record { seat = refl; number = refl; copy = refl }) d g group unsent asked f.kinds f.may
       (subst (λ c. CallerSays past t (acts.Post m d) c) (sym poster-is)
       (record {
         seat = refl;

@@ -74,9 +74,7 @@ module _ (n : NetState) (past : List Entry) (shape : IsLayout n.layout) (s : Sta
           let inside : IsIn o (transfer past port.ui) = subst (IsIn o) (s.transfers port.ui) (in-view (is_with port.ui) o n.packets (ap (moves port.ui) e ∙ same_ui-self port.ui) i) in
           ap (λ to. OnTheWay o.packet.from to port ∷ []) (sym (goes-to port.ui o port e inside))
       go (cargos.Try m q r only h) e = refl
-      go (cargos.Verdict x q r a) e = refl
-      go (cargos.Ask m d) e = refl
-      go (cargos.Report x a) e = refl
+      go _ e = refl
 
   pub left-is : holdings_left n.layout (placed n) (packets_left n) ≡ holdings_in n
   left-is =

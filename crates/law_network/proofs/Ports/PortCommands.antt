@@ -1,31 +1,25 @@
 -- The commands at a port: receive, move, delete.
-use Rattle.std.proofs.Common.{ℕ, ◌≡◌, ◌≤◌, ◌==◌, ◌+◌, ◌-◌, true, false, ◌&&◌, not, cond, List, [], ◌∷◌, ◌++◌, length, drop, map, Some, None, refl, sym, ◌∙◌, ap, subst, arith, eq-eqb, length-append, length-drop}
+use Rattle.std.proofs.Common.{ℕ, ◌≡◌, ◌≤◌, ◌+◌, ◌-◌, true, false, cond, List, [], ◌∷◌, ◌++◌, length, map, Some, None, refl, sym, ◌∙◌, ap, subst, arith, length-append}
 use Rattle.std.specs.List.{filter}
-use Rattle.std.proofs.lemmas.List.{length-map}
-use Rattle.std.proofs.lemmas.Bool.{and_from}
 use Rattle.chorus_ui.specs.declared.ui.Ui.{Ui}
 use Rattle.chorus_ui.specs.Name.{same_ui}
 use Rattle.chorus_ui.proofs.Names.{same_ui-self, from_same_ui}
 use Rattle.chorus_ui.specs.declared.layout.Layout.{Layout}
-use Rattle.chorus_ui.specs.Layout.{has_actor, place_at, site_of}
 use Rattle.chorus_entry.specs.declared.entry.Entry.{Entry}
 use Rattle.chorus_entry.specs.declared.id.MsgId.{MsgId}
-use Rattle.chorus_entry.specs.declared.message.Message.{Message}
+use Rattle.chorus_entry.specs.declared.command.Command.{Command}
 use Rattle.chorus_entry.specs.declared.act.Act.{Act}
 use Rattle.chorus_entry.specs.declared.act.Act.TheVariants as acts
 use Rattle.chorus_entry.specs.declared.packet.Cargo.TheVariants as cargos
 use Rattle.chorus_entry.specs.declared.record.PortRecord.{PortRecord}
 use Rattle.chorus_entry.specs.Act.{message_of, held_port_of}
-use Rattle.chorus_entry.specs.Ids.{same_ids}
-use Rattle.chorus_ui.specs.NameKind.{is_port, is_actor}
 use Rattle.chorus_entry.specs.Kinds.{has_kinds}
-use Rattle.chorus_entry.proofs.Same.{same_ids-self}
 use Rattle.chorus_world.specs.declared.spot.Spot.TheVariants.{Held, Moving, Ended}
 use Rattle.chorus_hints.specs.Known.{learned}
 use Rattle.chorus_world.specs.Views.{at, on, is_on}
-use Rattle.chorus_world.specs.Ports.{PortState, fate, fate_after, last_of, is_empty, is_held_at, is_next_hop, are_waiting}
+use Rattle.chorus_world.specs.Ports.{PortState, fate, fate_after, last_of}
 use Rattle.chorus_world.specs.Places.{last_clock, just_taken}
-use Rattle.chorus_world.specs.Runs.{is_held_by, is_held_at_by, fits_caller}
+use Rattle.chorus_world.specs.Runs.{fits_caller}
 use Rattle.chorus_world.specs.SortingLaws.{LooksAtHome}
 use Rattle.chorus_world.proofs.Sorted.Local.{local_views, act_may_here}
 use Rattle.chorus_world.proofs.Messages.Posted.{AllPosted, AcceptedPosted, EachPosted, accepted_posted, filtered}
@@ -36,6 +30,7 @@ use Rattle.chorus_ports.proofs.Tables.{find-without, are_distinct-without}
 use Rattle.law_machine.specs.declared.outgoing.Outgoing.{Outgoing}
 use Rattle.law_machine.specs.PlaceState.{Turn, next_clock, next_entry, packed, unchanged, note}
 use Rattle.law_machine.specs.Doing.{with_ports, departs, transfer_to}
+use Rattle.chorus_world.proofs.Seats.OnlyAnswer.{Fitting}
 use Rattle.law_network.specs.Packets.{put, put_all}
 use Rattle.law_network.specs.Network.{NetState}
 use Rattle.law_network.specs.Records.{message, record_by, record_here, record_held, record_for}
@@ -44,17 +39,17 @@ use Rattle.law_network.specs.UnderWay as under_ways
 use Rattle.law_network.proofs.Links.LinkViews.{put-out, put-in, put-order}
 use Rattle.law_network.proofs.Standing.InTurn.{ArePackets}
 use Rattle.law_network.proofs.Standing.Says.{known_clock, MaySay}
-use Rattle.law_network.proofs.Standing.Grows.{record-grows, message-id}
+use Rattle.law_network.proofs.Standing.Grows.{record-grows}
 use Rattle.law_network.proofs.Standing.StillCallers.{asks_or_chooses, caller-still, asks-still, no-message-clock}
 use Rattle.law_network.proofs.Standing.Families.{Here, messages-none, ports-one, transfers-one, held-there, held-moves-not, moving-not-here}
 use Rattle.law_network.proofs.Standing.Steps.{Stood, facts, laws, says, legal-with, tables-still}
 use Rattle.law_network.proofs.Tables.TablesSay.{unheard-still, waiting-still}
 use Rattle.law_network.proofs.Links.PacketViews.{put-asks, no-ask}
-use Rattle.law_network.proofs.Ports.HeldPorts.{here-now, held-now, line-clock, facts-now, name-now, replaced, left-alone}
+use Rattle.law_network.proofs.Ports.HeldPorts.{here-now, line-clock, name-now, replaced, left-alone}
 use Rattle.law_network.proofs.Standing.Leading.{behind-calm}
 use Rattle.law_network.proofs.Tables.Learning.{known-departs}
 
-module _ (n : NetState) (us : List Outgoing) (past : List Entry) (t : Turn) (w : Stood n us past t) (q : Ui) (r : PortRecord) (found : find q t.place.ports ≡ Some r) (mine : r.actor ≡ t.caller.actor) (rests : just_taken past (at t.place.number past) ≡ None) (named : is_port q ≡ true) where
+module _ (n : NetState) (us : List Outgoing) (past : List Entry) (t : Turn) (w : Stood n us past t) (q : Ui) (r : PortRecord) (found : find q t.place.ports ≡ Some r) (rests : just_taken past (at t.place.number past) ≡ None) where
   abbrev l : Layout
   l = t.place.layout
 
@@ -70,14 +65,8 @@ module _ (n : NetState) (us : List Outgoing) (past : List Entry) (t : Turn) (w :
   abbrev pub z : Here past (on q past) q t.place.number r
   z = here-now n us past t w q r found
 
-  pub held-by-caller : is_held_at_by t.place.number t.caller.actor (fate (on q past)) ≡ true
-  held-by-caller =
-      ap (is_held_at_by p t.caller.actor) z.fate_is
-      ∙ and_from (is_held_by t.caller.actor z.fate_of.spot) (last_of 0 z.fate_of.path == p)
-      (ap (is_held_by t.caller.actor) z.spot ∙ (ap (same_ui t.caller.actor) mine ∙ same_ui-self t.caller.actor)) (eq-eqb (last_of 0 z.fate_of.path) p z.place)
-
-  pub held-it : is_held_at t.place.number (fate (on q past)) ≡ true
-  held-it = held-now n us past t w q r found
+  abbrev Fit : Command → Act → Type 0
+  Fit c a = Fitting t.place.layout past t.place.number t.caller.seat t.caller.actor c a
 
   pub each-posted : EachPosted past z.fate_of.accepted
   each-posted = subst (AcceptedPosted past) z.fate_is (accepted_posted past line (filtered past (is_on (Some q)) past (laws n us past t w).posted))
@@ -114,20 +103,13 @@ module _ (n : NetState) (us : List Outgoing) (past : List Entry) (t : Turn) (w :
       }
 
   -- Empty
-  pub empty-stands : r.pending ≡ [] → Stood n us (next_entry (acts.Empty q) t ∷ past) (note (acts.Empty q) t)
-  empty-stands none =
+  pub empty-stands : {c : Command} → Fit c (acts.Empty q) → Stood n us (next_entry (acts.Empty q) t ∷ past) (note (acts.Empty q) t)
+  empty-stands fit =
       let a = acts.Empty q in
       let e = next_entry a t in
       let f = z.fate_of in
-      let facts = facts-now n us past t w q r found in
-      let len : length r.pending ≡ length f.accepted - f.taken =
-      ap (λ (k : PortRecord). length k.pending) z.shows ∙ (length-map (drop f.taken f.accepted) (message past) ∙ length-drop f.taken f.accepted) in
-      let zero-is : length r.pending ≡ 0 = ap length none in
-      let within = facts.within in
-      let same : f.taken ≡ length f.accepted = omega (arith, len, zero-is, within) in
-      let empty : is_empty (fate line) ≡ true = ap is_empty z.fate_is ∙ eq-eqb f.taken (length f.accepted) same in
       let s = left-alone n us past t w q r found e f refl refl refl z.spot z.place (old-record e) in
-      let may = port-may a refl refl named (and_from (is_held_at p (fate line)) (is_empty (fate line)) held-it empty) held-by-caller tt in
+      let may = port-may a refl refl fit.kinds fit.may fit.fits tt in
       says n us past t w a (unchanged t)
       (record {
         may = may;
@@ -138,18 +120,15 @@ module _ (n : NetState) (us : List Outgoing) (past : List Entry) (t : Turn) (w :
       })
 
   -- Rehome
-  pub rehome-stands : (actor : Ui) → is_actor actor ≡ true → has_actor t.place.layout actor ≡ true → (actor.site == site_of t.place.layout t.place.number) ≡ true
-      → Stood n us (next_entry (acts.Rehome q actor) t ∷ past) (with_ports (acts.Rehome q actor) (replace q (rehomed actor) t.place.ports) t)
-  rehome-stands actor kind there site =
+  pub rehome-stands : {c : Command} (actor : Ui) → Fit c (acts.Rehome q actor) → Stood n us (next_entry (acts.Rehome q actor) t ∷ past) (with_ports (acts.Rehome q actor) (replace q (rehomed actor) t.place.ports) t)
+  rehome-stands actor fit =
       let a = acts.Rehome q actor in
       let e = next_entry a t in
       let f = z.fate_of in
       let g : PortState = record f { spot = Held actor } in
       let is : rehomed actor r ≡ record_for (e ∷ past) (e ∷ line) q actor g = ap (rehomed actor) (old-record e) in
       let s = replaced n us past t w q r found e actor g (rehomed actor) (λ k. refl) refl refl refl refl z.place is in
-      let may =
-      port-may a refl refl (and_from (is_port q) (is_actor actor) named kind)
-      (and_from (is_held_at p (fate line) && has_actor l actor) (actor.site == site_of l p) (and_from (is_held_at p (fate line)) (has_actor l actor) held-it there) site) held-by-caller tt in
+      let may = port-may a refl refl fit.kinds fit.may fit.fits tt in
       says n us past t w a (record (unchanged t) { ports = replace q (rehomed actor) t.place.ports })
       (record {
         may = may;
@@ -160,10 +139,6 @@ module _ (n : NetState) (us : List Outgoing) (past : List Entry) (t : Turn) (w :
       })
 
   -- Delete
-  ids-are : (xs : List MsgId) → map (λ (m : Message). m.id) (map (message past) xs) ≡ xs
-  ids-are [] = refl
-  ids-are (x ∷ xs) = ap (λ y. y ∷ map (λ (m : Message). m.id) (map (message past) xs)) (message-id past x) ∙ ap (λ ys. x ∷ ys) (ids-are xs)
-
   ended-not-here : (all v : List Entry) (f : PortState) (s : ℕ) → fate v ≡ Some f → f.spot ≡ Ended → record_by all v q s ≡ None
   ended-not-here all v f s e k = ap (record_here all v q s) e ∙ ap (record_held all v q s f) k
 
@@ -176,19 +151,16 @@ module _ (n : NetState) (us : List Outgoing) (past : List Entry) (t : Turn) (w :
   gone-others : (y : Ui) → same_ui q y ≡ false → find y (without q t.place.ports) ≡ find y t.place.ports
   gone-others y ne = find-without y q t.place.ports w.here.once ∙ ap (λ b. cond b None (find y t.place.ports)) ne
 
-  pub delete-stands : (let a = acts.Delete q (map (λ (m : Message). m.id) r.pending) in Stood n us (next_entry a t ∷ past) (with_ports a (without q t.place.ports) t))
-  delete-stands =
-      let xs = map (λ (m : Message). m.id) r.pending in
+  pub delete-stands : {c : Command} (xs : List MsgId) → Fit c (acts.Delete q xs) → Stood n us (next_entry (acts.Delete q xs) t ∷ past) (with_ports (acts.Delete q xs) (without q t.place.ports) t)
+  delete-stands xs fit =
       let a = acts.Delete q xs in
       let e = next_entry a t in
       let f = z.fate_of in
       let g : PortState = record f { spot = Ended } in
       let all = (laws n us past t w).posted in
       let after : fate (e ∷ line) ≡ Some g = ap (fate_after p a) z.fate_is in
-      let ids : xs ≡ drop f.taken f.accepted = ap (λ (k : PortRecord). map (λ (m : Message). m.id) k.pending) z.shows ∙ ids-are (drop f.taken f.accepted) in
-      let waiting : are_waiting xs (fate line) ≡ true = ap (are_waiting xs) z.fate_is ∙ (ap (same_ids xs) (sym ids) ∙ same_ids-self xs) in
       let ports = without q t.place.ports in
-      let may = port-may a refl refl named (and_from (is_held_at p (fate line)) (are_waiting xs (fate line)) held-it waiting) held-by-caller tt in
+      let may = port-may a refl refl fit.kinds fit.may fit.fits tt in
       says n us past t w a (record (unchanged t) { ports = ports })
       (record {
         may = may;
@@ -215,9 +187,9 @@ module _ (n : NetState) (us : List Outgoing) (past : List Entry) (t : Turn) (w :
   push-before [] c d x = refl
   push-before (y ∷ xs) c d x = push-before xs d y x
 
-  pub depart-stands : (to : ℕ) (actor : Ui) → is_actor actor ≡ true → has_actor t.place.layout actor ≡ true → (actor.site == site_of t.place.layout t.place.number) ≡ false → to ≡ place_at t.place.layout actor.site q
-      → 1 ≤ length z.fate_of.path → Stood n us (next_entry (acts.Depart q to actor (r.hop + 1)) t ∷ past) (departs q to actor (r.hop + 1) t)
-  depart-stands to actor kind there site to-is some =
+  pub depart-stands : {c : Command} (to : ℕ) (actor : Ui) → Fit c (acts.Depart q to actor (r.hop + 1)) → 1 ≤ length z.fate_of.path
+      → Stood n us (next_entry (acts.Depart q to actor (r.hop + 1)) t ∷ past) (departs q to actor (r.hop + 1) t)
+  depart-stands to actor fit some =
       let hop = r.hop + 1 in
       let a = acts.Depart q to actor hop in
       let e = next_entry a t in
@@ -239,12 +211,7 @@ module _ (n : NetState) (us : List Outgoing) (past : List Entry) (t : Turn) (w :
       let none : filter (is_with q) os ≡ [] = w.packets.transfers q ∙ held-moves-not past line q r.actor f z.fate_is z.spot in
       let loads-are : transfer_to to actor hop (find q t.place.ports) ≡ (to, cargos.Transfer (migrated hop actor r)) ∷ [] = ap (transfer_to to actor hop) found in
       let name : r.ui ≡ q = name-now n us past t w q r found in
-      let may =
-      port-may a refl refl (and_from (is_port q) (is_actor actor) named kind)
-      (and_from (is_held_at p (fate line) && has_actor l actor && not (actor.site == site_of l p) && (to == place_at l actor.site q)) (is_next_hop hop (fate line))
-      (and_from (is_held_at p (fate line) && has_actor l actor && not (actor.site == site_of l p)) (to == place_at l actor.site q)
-      (and_from (is_held_at p (fate line) && has_actor l actor) (not (actor.site == site_of l p)) (and_from (is_held_at p (fate line)) (has_actor l actor) held-it there) (ap not site)) (eq-eqb to (place_at l actor.site q) to-is))
-      (ap (is_next_hop hop) z.fate_is ∙ eq-eqb hop (length f.path) hop-is)) held-by-caller tt in
+      let may = port-may a refl refl fit.kinds fit.may fit.fits tt in
       says n us past t w a (record (unchanged t) { ports = ports; known = learned q to hop t.place.known; loads = transfer_to to actor hop (find q t.place.ports) })
       (record {
         may = may;

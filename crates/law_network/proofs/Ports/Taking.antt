@@ -10,14 +10,12 @@ use Rattle.chorus_entry.specs.declared.id.MsgId.{MsgId}
 use Rattle.chorus_entry.specs.declared.tag.Tag.{Tag}
 use Rattle.chorus_entry.specs.declared.tag.Tag.TheVariants as tags
 use Rattle.chorus_entry.specs.declared.message.Message.{Message}
+use Rattle.chorus_entry.specs.declared.command.Command.{Command}
 use Rattle.chorus_entry.specs.declared.act.Act.TheVariants as acts
 use Rattle.chorus_entry.specs.declared.record.PortRecord.{PortRecord}
-use Rattle.chorus_ui.specs.NameKind.{is_port}
-use Rattle.chorus_entry.specs.MsgId.{same_id}
-use Rattle.chorus_entry.proofs.Same.{same_id-self}
 use Rattle.chorus_world.specs.Views.{at, by, on}
-use Rattle.chorus_entry.specs.Same.{are_same, is_number}
-use Rattle.chorus_world.specs.Ports.{PortState, fate, is_held_at, is_first_waiting}
+use Rattle.chorus_entry.specs.Same.{is_number}
+use Rattle.chorus_world.specs.Ports.{PortState}
 use Rattle.chorus_world.specs.Places.{just_taken, reply_taken}
 use Rattle.chorus_world.specs.Posts.{Posted, post_of, tag_of, tag_from, as_posted}
 use Rattle.chorus_world.specs.Seats.{call, hand_with, ended}
@@ -33,6 +31,7 @@ use Rattle.chorus_calls.specs.Callers.{Seated, with_client}
 use Rattle.law_machine.specs.declared.outgoing.Outgoing.{Outgoing}
 use Rattle.law_machine.specs.PlaceState.{Turn, next_entry, unchanged, say, note}
 use Rattle.law_machine.specs.Doing.{ends_call, holding}
+use Rattle.chorus_world.proofs.Seats.OnlyAnswer.{Fitting}
 use Rattle.law_network.specs.Network.{NetState}
 use Rattle.law_network.specs.Records.{message, record_for, outstanding_as, as_called}
 use Rattle.law_network.specs.Packets.{put_all}
@@ -43,7 +42,7 @@ use Rattle.law_network.proofs.Standing.StillCallers.{outstanding-more}
 use Rattle.law_network.proofs.Standing.Steps.{Stood, says, tables-still, may-say, notes, calls}
 use Rattle.law_network.proofs.Ports.HeldPorts.{replaced}
 use Rattle.law_network.proofs.Standing.Leading.{LeadsOn, leads-one}
-use Rattle.law_network.proofs.Ports.PortCommands.{z, each-posted, old-record, held-it, held-by-caller, port-may, still-packets}
+use Rattle.law_network.proofs.Ports.PortCommands.{z, each-posted, old-record, port-may, still-packets}
 
 drop-first : (k : ℕ) (xs : List MsgId) (x : MsgId) (ys : List MsgId) → drop k xs ≡ x ∷ ys → slice_get xs k ≡ Some x
 drop-first zero [] x ys h = absurd (cc)
@@ -108,33 +107,28 @@ holds-hand x tags.Plain c = refl
 holds-hand x (tags.Request k b) c = refl
 holds-hand x (tags.Reply k b) c = refl
 
-module _ (n : NetState) (us : List Outgoing) (past : List Entry) (t : Turn) (w : Stood n us past t) (q : Ui) (r : PortRecord) (found : find q t.place.ports ≡ Some r) (mine : r.actor ≡ t.caller.actor) (rests : just_taken past (at t.place.number past) ≡ None) (named : is_port q ≡ true) where
+module _ (n : NetState) (us : List Outgoing) (past : List Entry) (t : Turn) (w : Stood n us past t) (q : Ui) (r : PortRecord) (found : find q t.place.ports ≡ Some r) (mine : r.actor ≡ t.caller.actor) (rests : just_taken past (at t.place.number past) ≡ None) where
   -- Take
-  pub take-stands : (m : Message) (ms : List Message) → r.pending ≡ m ∷ ms
+  pub take-stands : {c : Command} (m : Message) (ms : List Message) → r.pending ≡ m ∷ ms → Fitting t.place.layout past t.place.number t.caller.seat t.caller.actor c (acts.Take q r.first m.id)
       → (let a = acts.Take q r.first m.id in
       Stood n us (next_entry a t ∷ past) (say a (record (unchanged t) { caller = holding m.id m.tag t.caller; ports = replace q (after_take t.caller.actor) t.place.ports }) t)
       × (just_taken (next_entry a t ∷ past) (at t.place.number (next_entry a t ∷ past)) ≡ reply_taken t.caller.seat m.tag))
-  take-stands m ms pend =
+  take-stands m ms pend fit =
       let p = t.place.number in
       let line = on q past in
       let x = m.id in
       let a = acts.Take q r.first x in
       let e = next_entry a t in
-      let h = z n us past t w q r found mine rests named in
+      let h = z n us past t w q r found rests in
       let f = h.fate_of in
       let g : PortState = record f { taken = f.taken + 1 } in
       let first = map-first past (drop f.taken f.accepted) m ms (sym (ap (λ (k : PortRecord). k.pending) h.shows) ∙ pend) in
       let id : first.0 ≡ x = sym (id-of past first.0) ∙ ap (λ (k : Message). k.id) first.1.1.1.0 in
       let head : drop f.taken f.accepted ≡ x ∷ first.1.0 = first.1.1.0 ∙ ap (λ y. y ∷ first.1.0) id in
-      let posted = each-drop past f.taken f.accepted x first.1.0 (each-posted n us past t w q r found mine rests named) head in
+      let posted = each-drop past f.taken f.accepted x first.1.0 (each-posted n us past t w q r found rests) head in
       let tag : m.tag ≡ tag_of x (e ∷ past) =
       sym (ap (λ (k : Message). k.tag) first.1.1.1.0) ∙ (tag-of past first.0 ∙ (ap (λ y. tag_of y past) id ∙ sym (tag_agrees (e ∷ past) past x (goes-on e past) posted))) in
-      let position : r.first ≡ f.taken = ap (λ (k : PortRecord). k.first) h.shows in
-      let waits : is_first_waiting r.first x (fate line) ≡ true =
-      ap (is_first_waiting r.first x) h.fate_is
-      ∙ and_from (r.first == f.taken) (are_same same_id (Some x) (slice_get f.accepted r.first)) (eq-eqb r.first f.taken position)
-      (ap (λ k. are_same same_id (Some x) (slice_get f.accepted k)) position ∙ (ap (are_same same_id (Some x)) (drop-first f.taken f.accepted x first.1.0 head) ∙ same_id-self x)) in
-      let old = old-record n us past t w q r found mine rests named e in
+      let old = old-record n us past t w q r found rests e in
       let pend2 : (record_for (e ∷ past) line q r.actor f).pending ≡ m ∷ ms = ap (λ (k : PortRecord). k.pending) (sym old) ∙ pend in
       let later : map (message (e ∷ past)) (drop (f.taken + 1) f.accepted) ≡ ms =
       ap (map (message (e ∷ past))) (drop-rest f.taken f.accepted x first.1.0 head)
@@ -146,9 +140,7 @@ module _ (n : NetState) (us : List Outgoing) (past : List Entry) (t : Turn) (w :
       ∙ ap (λ ks. record (record_for (e ∷ past) (e ∷ line) q r.actor g) { pending = ks }) (sym later))) in
       let s = replaced n us past t w q r found e r.actor g (after_take t.caller.actor) (keeps-name t.caller.actor) refl refl refl h.spot h.place is in
       let view = by t.caller.seat past in
-      let may =
-      port-may n us past t w q r found mine rests named a refl refl named
-      (and_from (is_held_at p (fate line)) (is_first_waiting r.first x (fate line)) (held-it n us past t w q r found mine rests named) waits) (held-by-caller n us past t w q r found mine rests named) tt in (
+      let may = port-may n us past t w q r found rests a refl refl fit.kinds fit.may fit.fits tt in (
         says n us past t w a (record (unchanged t) { caller = holding x m.tag t.caller; ports = replace q (after_take t.caller.actor) t.place.ports })
             (record {
               may = may;
@@ -163,7 +155,7 @@ module _ (n : NetState) (us : List Outgoing) (past : List Entry) (t : Turn) (w :
               };
               ports = s.ports;
               tables = tables-still n us past t w a may refl refl refl (λ k f. refl);
-              packets = still-packets n us past t w q r found mine rests named a refl refl s.transfers;
+              packets = still-packets n us past t w q r found rests a refl refl s.transfers;
             }),
         ap (just_taken (e ∷ past)) (at_same p e past refl) ∙ ap (reply_taken t.caller.seat) (sym tag),
       )

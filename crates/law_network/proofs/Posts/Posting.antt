@@ -1,11 +1,10 @@
 -- A message is posted to a port.
-use Rattle.std.proofs.Common.{ℕ, ◌≡◌, ◌<◌, ◌==◌, ◌+◌, Bool, true, false, ◌&&◌, cond, List, [], ◌∷◌, map, Option, Some, None, refl, sym, ◌∙◌, ap, arith, eq-eqb}
+use Rattle.std.proofs.Common.{ℕ, ◌≡◌, ◌<◌, ◌+◌, Bool, true, false, ◌&&◌, cond, List, [], ◌∷◌, map, Option, Some, None, refl, sym, ◌∙◌, ap, arith, eq-eqb}
 use Rattle.std.specs.List.{filter}
 use Rattle.std.specs.Option.{option_or}
 use Rattle.std.proofs.lemmas.Bool.{and_from}
 use Rattle.chorus_ui.specs.declared.ui.Ui.{Ui}
 use Rattle.chorus_ui.specs.declared.layout.Layout.{Layout}
-use Rattle.chorus_ui.specs.Layout.{place_at}
 use Rattle.chorus_entry.specs.declared.entry.Entry.{Entry}
 use Rattle.chorus_entry.specs.declared.dest.Dest.{Dest}
 use Rattle.chorus_entry.specs.declared.dest.Dest.TheVariants as dests
@@ -23,8 +22,7 @@ use Rattle.chorus_world.specs.Views.{at, by, about, is_by, is_about}
 use Rattle.chorus_world.specs.Places.{last_clock}
 use Rattle.chorus_world.specs.Posts.{Posted, post_of, posted_in, posted_by, source, site_from, as_posted}
 use Rattle.chorus_world.specs.Messages.{progress}
-use Rattle.chorus_world.specs.Seats.{posts, posts_stay}
-use Rattle.chorus_world.specs.Steps.{may_tag}
+use Rattle.chorus_world.specs.Seats.{posts}
 use Rattle.chorus_world.proofs.Sorted.Local.{local_views, act_may_here}
 use Rattle.chorus_world.proofs.Steps.LegalLemmas.{keeps}
 use Rattle.chorus_world.proofs.Messages.PostLemmas.{own_source}
@@ -90,16 +88,6 @@ module _ (n : NetState) (us : List Outgoing) (past : List Entry) (t : Turn) (i :
       ∙ (ap (λ o. option_or o (posted_by (source m.id) p (acts.Post m d))) unposted
       ∙ ap (λ b. cond b (Some (record { place = p; message = m; dest = d })) None) (ap (same_id m.id) own ∙ same_id-self m.id))
 
-  pub may-post : (d : Dest) → place_at t.place.layout t.caller.actor.site t.caller.actor ≡ t.place.number → may_tag (local_views past past t.place.number t.caller.seat (acts.Post m d)) m d m.tag ≡ true
-      → act_may_here t.place.layout (local_views past past t.place.number t.caller.seat (acts.Post m d)) t.place.number t.caller.seat (acts.Post m d) ≡ true
-  may-post d home tag =
-      let number : m.id.number ≡ posts (by k past) + 1 = new.number ∙ ap (λ z. z + 1) w.caller.posts in
-      let stays : posts_stay p (by k past) ≡ true = ap (λ z. posts_stay z (by k past)) (sym home) ∙ w.caller.stays in
-      and_from ((m.id.seat == k) && (m.id.number == posts (by k past) + 1) && (m.id.copy == 0) && posts_stay p (by k past)) (may_tag (local_views past past p k (acts.Post m d)) m d m.tag)
-      (and_from ((m.id.seat == k) && (m.id.number == posts (by k past) + 1) && (m.id.copy == 0)) (posts_stay p (by k past))
-      (and_from ((m.id.seat == k) && (m.id.number == posts (by k past) + 1)) (m.id.copy == 0)
-      (and_from (m.id.seat == k) (m.id.number == posts (by k past) + 1) (eq-eqb m.id.seat k new.seat) (eq-eqb m.id.number (posts (by k past) + 1) number)) (eq-eqb m.id.copy 0 new.copy)) stays) tag
-
   -- the turn with the post
   abbrev pub change : Ui → Change
   change q =
@@ -137,10 +125,10 @@ module _ (n : NetState) (us : List Outgoing) (past : List Entry) (t : Turn) (i :
               let same : j.id ≡ m.id = from_same_id j.id m.id e in
               absurd (let bad : None ≡ Some j = sym (((facts n us past t w m.id).fresh less).unsent p) ∙ (ap (λ z. sent_as z p past) (sym same) ∙ found) in cc)
 
-  pub posted-calm : (q : Ui) → place_at t.place.layout t.caller.actor.site t.caller.actor ≡ t.place.number → (has_kinds_in_tag m.tag && is_port q) ≡ true
-      → may_tag (local_views past past t.place.number t.caller.seat (acts.Post m (dests.Port q))) m (dests.Port q) m.tag ≡ true
+  pub posted-calm : (q : Ui) → (has_kinds_in_tag m.tag && is_port q) ≡ true
+      → act_may_here t.place.layout (local_views past past t.place.number t.caller.seat (acts.Post m (dests.Port q))) t.place.number t.caller.seat (acts.Post m (dests.Port q)) ≡ true
       → CallerSays past t (acts.Post m (dests.Port q)) (poster m (dests.Port q) t.caller) → (let a = acts.Post m (dests.Port q) in Calm n us (next_entry a t ∷ past) (say a (change q) t))
-  posted-calm q home kinds tag caller =
+  posted-calm q kinds may caller =
       let a = acts.Post m (dests.Port q) in
       let e = next_entry a t in
       let none : filter (is_of m.id) (put_all t.puts us) ≡ [] = w.packets.messages m.id ∙ ap (λ v. under_way_as l past m.id (last_clock v) (progress v)) unknown in
@@ -149,7 +137,7 @@ module _ (n : NetState) (us : List Outgoing) (past : List Entry) (t : Turn) (i :
       record {
         kinds = kinds;
         behind = behind-calm past p a i.rests;
-        may = may-post (dests.Port q) home tag;
+        may = may;
         fits = refl;
         looks = tt;
         message = omega (arith, zero-is);
@@ -169,12 +157,12 @@ module _ (n : NetState) (us : List Outgoing) (past : List Entry) (t : Turn) (i :
       }) in
       record { stood = stood; rests = rests-behind past t a refl }
 
-  pub post-stands : (q : Ui) → place_at t.place.layout t.caller.actor.site t.caller.actor ≡ t.place.number → (has_kinds_in_tag m.tag && is_port q) ≡ true
-      → may_tag (local_views past past t.place.number t.caller.seat (acts.Post m (dests.Port q))) m (dests.Port q) m.tag ≡ true
+  pub post-stands : (q : Ui) → (has_kinds_in_tag m.tag && is_port q) ≡ true
+      → act_may_here t.place.layout (local_views past past t.place.number t.caller.seat (acts.Post m (dests.Port q))) t.place.number t.caller.seat (acts.Post m (dests.Port q)) ≡ true
       → CallerSays past t (acts.Post m (dests.Port q)) (poster m (dests.Port q) t.caller) → LeadsOn n us past (posts_direct m q t)
-  post-stands q home kinds tag caller =
+  post-stands q kinds may caller =
       let a = acts.Post m (dests.Port q) in
       let u = say a (change q) t in
-      let calm = posted-calm q home kinds tag caller in
+      let calm = posted-calm q kinds may caller in
       then (λ now. Calm n us now u) (λ now. Calm n us now (posts_direct m q t)) past (step (λ now. Calm n us now u) (next_entry a t) past calm)
       (λ now c. go-stands n us (direct q) now u c)

@@ -126,27 +126,13 @@ known-answer : (l : Layout) (a : Answer) → NamesPlaces l a → is_known_answer
 known-answer l (A.Stale to hop) h = h
 known-answer l (A.Elsewhere to hop) h = h
 known-answer l (A.Accepted n) h = refl
-known-answer l (A.Full n) h = refl
-known-answer l (A.Early n) h = refl
-known-answer l A.NoPort h = refl
-known-answer l A.Already h = refl
-known-answer l A.ClientsFull h = refl
-known-answer l A.NoMember h = refl
-known-answer l (A.Chosen n) h = refl
-known-answer l A.Gone h = refl
+known-answer l _ h = refl
 
 teaches : (l : Layout) (q : Ui) (a : Answer) → Teaches l q a → may_teach l q a ≡ true
 teaches l q (A.Stale to hop) h = and_from (can_make_port l q) (nat_le 1 hop) h.0 (le-leb 1 hop h.1)
 teaches l q (A.Elsewhere to hop) h = and_from (can_make_port l q) (nat_le 1 hop) h.0 (le-leb 1 hop h.1)
 teaches l q (A.Accepted n) h = refl
-teaches l q (A.Full n) h = refl
-teaches l q (A.Early n) h = refl
-teaches l q A.NoPort h = refl
-teaches l q A.Already h = refl
-teaches l q A.ClientsFull h = refl
-teaches l q A.NoMember h = refl
-teaches l q (A.Chosen n) h = refl
-teaches l q A.Gone h = refl
+teaches l q _ h = refl
 
 -- Ports.
 

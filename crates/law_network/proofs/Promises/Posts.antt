@@ -1,12 +1,11 @@
 -- Over a schedule, what is posted is within its range: the number of its request or reply, its body, and the site that it demands.
-use Rattle.std.proofs.Common.{ℕ, ◌≡◌, ◌≤◌, ◌+◌, ◌==◌, nat_le, Bool, true, false, ◌&&◌, not, cond, List, [], ◌∷◌, length, Option, Some, None, slice_get, refl, sym, ◌∙◌, ap, subst, inl, inr, arith}
+use Rattle.std.proofs.Common.{ℕ, ◌≡◌, ◌≤◌, ◌+◌, ◌==◌, nat_le, Bool, true, false, ◌&&◌, cond, List, [], ◌∷◌, length, Option, Some, None, slice_get, refl, sym, ◌∙◌, ap, subst, inl, inr, arith}
 use Rattle.std.specs.List.{All}
 use Rattle.std.proofs.lemmas.Bool.{and_parts, and_from, le-leb, leb-true, eqb-true, true≢false}
 use Rattle.std.proofs.lemmas.List.Elements.{All-nil, All-cons, All-head, All-tail, All-append, All-filter, All-weaker}
-use Rattle.chorus_ui.specs.declared.ui.Ui.{Ui}
 use Rattle.chorus_ui.specs.declared.layout.Layout.{Layout}
-use Rattle.chorus_ui.specs.Layout.{IsLayout, has_site, has_actor, place_at, site_of}
-use Rattle.chorus_ui.specs.declared.limits.TheConstants.{GROUPS_PER_SITE_LIMIT, BODY_LIMIT, MEMBERS_LIMIT}
+use Rattle.chorus_ui.specs.Layout.{IsLayout}
+use Rattle.chorus_ui.specs.declared.limits.TheConstants.{BODY_LIMIT}
 use Rattle.chorus_entry.specs.declared.entry.Entry.{Entry}
 use Rattle.chorus_entry.specs.declared.id.MsgId.{MsgId}
 use Rattle.chorus_entry.specs.declared.hand.Hand.{Hand}
@@ -18,30 +17,22 @@ use Rattle.chorus_entry.specs.declared.dest.Dest.TheVariants as dests
 use Rattle.chorus_entry.specs.declared.act.Act.{Act}
 use Rattle.chorus_entry.specs.declared.act.Act.TheVariants as acts
 use Rattle.chorus_entry.specs.declared.command.Command.{Command}
-use Rattle.chorus_entry.specs.declared.command.Command.TheVariants as commands
 use Rattle.chorus_entry.specs.declared.packet.Packet.{Packet}
-use Rattle.chorus_entry.specs.declared.record.PortRecord.{PortRecord}
 use Rattle.chorus_entry.specs.Act.{is_command_entry}
 use Rattle.chorus_entry.specs.Command.{meets_conditions, demands_a_site, has_body_in_limit}
 use Rattle.chorus_entry.specs.Kinds.{has_kinds_in_dest}
 use Rattle.chorus_entry.specs.Ranges.{has_range_of_tag}
-use Rattle.chorus_world.specs.Views.{by, is_by, is_group}
-use Rattle.chorus_world.specs.Groups.{groups_made, members}
-use Rattle.chorus_entry.specs.Members.{is_member}
+use Rattle.chorus_world.specs.Views.{by, is_by}
 use Rattle.chorus_world.specs.Posts.{Posted, post_of, posted_in, posted_by, source, tag_from}
 use Rattle.chorus_world.specs.Seats as seats
-use Rattle.chorus_world.specs.Steps.{is_full_of_ports}
 use Rattle.chorus_world.proofs.Messages.SendingLemmas.{from_or}
 use Rattle.chorus_world.proofs.Groups.ChoiceLemmas.{posted_is}
-use Rattle.chorus_ports.specs.declared.taking.Taken.{Taken}
-use Rattle.chorus_ports.specs.declared.taking.Taken.TheVariants as takes
-use Rattle.chorus_ports.specs.Table.{find}
-use Rattle.chorus_ports.specs.Taking.{taken}
 use Rattle.chorus_calls.specs.Clients.{Call}
 use Rattle.chorus_calls.specs.Callers.{Seated}
 use Rattle.law_machine.specs.PlaceState.{PlaceState, next_entry}
-use Rattle.law_machine.specs.Own.{own, next_port, next_group, take_act, move_act, delete_act, held_by, call_act, retry_act, cancel_act, reply_act, next_message}
-use Rattle.law_machine.specs.PlaceMachine.{begun_by}
+use Rattle.law_machine.specs.Own.{own, next_message}
+use Rattle.law_machine.specs.PlaceMachine.{begun, begun_by}
+use Rattle.law_machine.proofs.Machine.Owns.{IsOwn, Sends, Calls, Retries, Replies, is-own}
 use Rattle.law_network.specs.Packets.{first_on}
 use Rattle.law_network.specs.Network.{NetState, Event, Enter, Act as Acts, Deliver, See, place, turn_for, schedule}
 use Rattle.law_network.specs.Records.{as_called, outstanding_as, outstanding}
@@ -151,14 +142,6 @@ hand-fits past (e ∷ mine) h all k = by e.act k (λ y. hand-fits past mine y al
 
 -- An own act that posts.
 
-either-fits : (b : Bool) (x y : Act) → posts_fit x ≡ true → posts_fit y ≡ true → posts_fit (cond b x y) ≡ true
-either-fits true x y h k = h
-either-fits false x y h k = k
-
-three-fit : (b c : Bool) (x y z : Act) → posts_fit x ≡ true → posts_fit y ≡ true → posts_fit z ≡ true → posts_fit (cond b x (cond c y z)) ≡ true
-three-fit true c x y z h k m = h
-three-fit false c x y z h k m = either-fits c y z k m
-
 new-fits : (tag : Tag) (body : List ℕ) (caller : Seated) (d : Dest) → has_range_of_tag tag ≡ true → length body ≤ 4096 → demands_a_site d ≡ true → fits_in_post (next_message tag body caller) d ≡ true
 new-fits tag body caller d t b s =
     and_from (has_range_of_tag tag && nat_le (length body) 4096) (demands_a_site d) (and_from (has_range_of_tag tag) (nat_le (length body) 4096) t (le-leb (length body) 4096 b)) s
@@ -167,13 +150,8 @@ module _ (n : NetState) (past : List Entry) (s : Stands n past) (all : All Posts
   mine-fit : All PostsFit (by k past)
   mine-fit = All-filter (is_by k) PostsFit past all
 
-  call-fits : (q back : Ui) (body : List ℕ) (o : Option Call) → length body ≤ 4096 → posts_fit (call_act q back body caller o) ≡ true
-  call-fits q back body None b = new-fits (tags.Request (caller.client.given + 1) back) body caller (dests.Port q) (le-leb 1 (caller.client.given + 1) (omega arith)) b refl
-  call-fits q back body (Some call) b = refl
-
-  retry-fits : (o : Option Call) → caller.client.outstanding ≡ o → posts_fit (retry_act caller o) ≡ true
-  retry-fits None e = refl
-  retry-fits (Some call) e =
+  retry-fits : (call : Call) → caller.client.outstanding ≡ Some call → fits_in_post (next_message (tags.Request call.number call.back) call.body caller) (dests.Port call.port) ≡ true
+  retry-fits call e =
       let is : outstanding (by k past) ≡ Some call = sym (s.callers k caller h).call ∙ e in
       let f = go (seats.call (by k past)) is in
       new-fits (tags.Request call.number call.back) call.body caller (dests.Port call.port) (le-leb 1 call.number f.0) f.1 refl
@@ -198,55 +176,22 @@ module _ (n : NetState) (past : List Entry) (s : Stands n past) (all : All Posts
       go None i = absurd (cc)
       go (Some m) i = named m (seats.first_call m (by k past)) refl i
 
-  reply-fits : (body : List ℕ) (o : Option Hand) → caller.hand ≡ o → length body ≤ 4096 → posts_fit (reply_act body caller o) ≡ true
-  reply-fits body None e b = refl
-  reply-fits body (Some z) e b =
+  reply-fits : (body : List ℕ) (z : Hand) → caller.hand ≡ Some z → length body ≤ 4096 → fits_in_post (next_message (tags.Reply z.client z.number) body caller) (dests.Port z.back) ≡ true
+  reply-fits body z e b =
       let is : seats.hand past (by k past) ≡ Some z = sym (s.callers k caller h).hand ∙ e in
       new-fits (tags.Reply z.client z.number) body caller (dests.Port z.back) (le-leb 1 z.number (hand-fits past (by k past) z all is)) b refl
 
-  take-fits : (q : Ui) (o : Taken) → posts_fit (take_act q o) ≡ true
-  take-fits q (takes.Message pos m) = refl
-  take-fits q takes.Empty = refl
-  take-fits q takes.NotHere = refl
-
-  cancel-fits : (o : Option Call) → posts_fit (cancel_act o) ≡ true
-  cancel-fits None = refl
-  cancel-fits (Some call) = refl
-
-  move-fits : (q actor : Ui) (p : PlaceState) (o : Option PortRecord) → posts_fit (move_act q actor p o) ≡ true
-  move-fits q actor p None = refl
-  move-fits q actor p (Some port) =
-      three-fit (not (has_actor p.layout actor)) (actor.site == site_of p.layout p.number) (acts.NoActor actor) (acts.Rehome q actor) (acts.Depart q (place_at p.layout actor.site q) actor (port.hop + 1)) refl refl refl
-
-  delete-fits : (q : Ui) (o : Option PortRecord) → posts_fit (delete_act q o) ≡ true
-  delete-fits q None = refl
-  delete-fits q (Some port) = refl
+  own-fits : (p : PlaceState) {c : Command} {a : Act} → IsOwn (begun p caller) c a → meets_conditions c ≡ true → has_body_in_limit c ≡ true → posts_fit a ≡ true
+  own-fits p (Sends d body) m b =
+      new-fits tags.Plain body caller d refl (leb-true (length body) 4096 b) (and_parts (has_kinds_in_dest d) (demands_a_site d) m).1
+  own-fits p (Calls q back body e) m b =
+      new-fits (tags.Request (caller.client.given + 1) back) body caller (dests.Port q) (le-leb 1 (caller.client.given + 1) (omega arith)) (leb-true (length body) 4096 b) refl
+  own-fits p (Retries call e) m b = retry-fits call e
+  own-fits p (Replies body z e) m b = reply-fits body z e (leb-true (length body) 4096 b)
+  own-fits p _ m b = refl
 
   pub own-post-fits : (c : Command) → meets_conditions c ≡ true → has_body_in_limit c ≡ true → posts_fit (own c (turn_for c caller n)) ≡ true
-  own-post-fits (commands.Make actor capacity) m b =
-      let p = (turn_for (commands.Make actor capacity) caller n).place in
-      three-fit (not (has_actor p.layout actor)) (is_full_of_ports p.layout p.journal) (acts.NoActor actor) (acts.MakeFull actor) (acts.Make (next_port p actor) actor capacity) refl refl refl
-  own-post-fits (commands.Send d body) m b =
-      new-fits tags.Plain body caller d refl (leb-true (length body) 4096 b) (and_parts (has_kinds_in_dest d) (demands_a_site d) m).1
-  own-post-fits (commands.Call q back body) m b = call-fits q back body caller.client.outstanding (leb-true (length body) 4096 b)
-  own-post-fits commands.Retry m b = retry-fits caller.client.outstanding refl
-  own-post-fits commands.Cancel m b = cancel-fits caller.client.outstanding
-  own-post-fits (commands.Reply body) m b = reply-fits body caller.hand refl (leb-true (length body) 4096 b)
-  own-post-fits (commands.Take q) m b = take-fits q (taken caller.actor (find q (turn_for (commands.Take q) caller n).place.ports))
-  own-post-fits (commands.Move q actor) m b =
-      move-fits q actor (turn_for (commands.Move q actor) caller n).place (held_by caller.actor (find q (turn_for (commands.Move q actor) caller n).place.ports))
-  own-post-fits (commands.GroupMake site) m b =
-      let p = (turn_for (commands.GroupMake site) caller n).place in
-      three-fit (not (has_site p.layout site)) (nat_le GROUPS_PER_SITE_LIMIT (groups_made p.journal)) (acts.NoSite site) (acts.GroupsFull site) (acts.GroupMake (next_group p site)) refl refl refl
-  own-post-fits (commands.Join g q) m b =
-      let here = (turn_for (commands.Join g q) caller n).place.journal in
-      let full = nat_le MEMBERS_LIMIT (length (members g here)) in
-      either-fits (not (is_group g here)) (acts.NoGroup g) (cond (is_member q (members g here)) (acts.There g q) (cond full (acts.MembersFull g) (acts.Join g q))) refl
-      (three-fit (is_member q (members g here)) full (acts.There g q) (acts.MembersFull g) (acts.Join g q) refl refl refl)
-  own-post-fits (commands.Leave g q) m b =
-      let here = (turn_for (commands.Leave g q) caller n).place.journal in
-      three-fit (not (is_group g here)) (is_member q (members g here)) (acts.NoGroup g) (acts.Leave g q) (acts.NotThere g q) refl refl refl
-  own-post-fits (commands.Delete q) m b = delete-fits q (held_by caller.actor (find q (turn_for (commands.Delete q) caller n).place.ports))
+  own-post-fits c m b = let t = turn_for c caller n in own-fits t.place (is-own c t) m b
 
 -- entries that answer no command post nothing
 follow-fits : (es : List Entry) → All (λ (e : Entry). is_command_entry e.act ≡ false) es → All PostsFit es

@@ -113,10 +113,7 @@ decided-by-to p (Some q) (Some a) z h = decided-to p q a z h
 told-to : (a : Answer) (z : Progress) → IsToGroup z → IsToGroup (told a z)
 told-to a (Decided from b q c) h = settled-to a
 told-to a Idle h = h
-told-to a (Asked from d) h = h
-told-to a (Tried from k to hop) h = h
-told-to a (Settled b) h = h
-told-to a Reported h = h
+told-to a _ h = h
 
 after-to : (p : ℕ) (a : Act) (z : Progress) → IsToGroup z → IsToGroup (progress_after p a z)
 after-to p (acts.Post m (D.Port q)) z h = tt

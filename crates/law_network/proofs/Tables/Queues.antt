@@ -34,11 +34,7 @@ use Rattle.law_network.proofs.Standing.Grows.{wait-grows}
 -- the place that tries it, in the words of the world
 pub tried-is : (s : Progress) → tried_at s ≡ going_to s
 tried-is Idle = refl
-tried-is (Asked from d) = refl
-tried-is (Tried from q to hop) = refl
-tried-is (Decided from by q a) = refl
-tried-is (Settled a) = refl
-tried-is Reported = refl
+tried-is _ = refl
 
 -- with these messages behind the others
 abbrev pub with_all : List Wait → Queue → Queue

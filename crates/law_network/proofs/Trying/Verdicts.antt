@@ -90,16 +90,10 @@ decides answers.Gone x q h = record { message = refl; caller = refl; sends = ref
 
 pub decision-progress : (a : Answer) (x : MsgId) (q : Ui) (h p : ℕ) (s : Progress) → is_decision_answer a ≡ true → progress_after p (decision x q h a) s ≡ decided p q a s
 decision-progress (answers.Accepted n) x q h p s d = refl
-decision-progress (answers.Full n) x q h p s d = refl
-decision-progress (answers.Stale to n) x q h p s d = refl
-decision-progress (answers.Early n) x q h p s d = refl
-decision-progress answers.NoPort x q h p s d = refl
-decision-progress answers.Already x q h p s d = refl
-decision-progress answers.ClientsFull x q h p s d = refl
-decision-progress (answers.Elsewhere to n) x q h p s d = refl
 decision-progress answers.NoMember x q h p s d = absurd (false≢true d)
 decision-progress (answers.Chosen n) x q h p s d = absurd (false≢true d)
 decision-progress answers.Gone x q h p s d = refl
+decision-progress _ x q h p s d = refl
 
 -- a final answer settles its message
 pub settling : (a : Answer) (x : MsgId) (q : Ui) (h : ℕ) → is_decision_answer a ≡ true → is_final a ≡ true → is_settling (decision x q h a) ≡ true
@@ -107,13 +101,10 @@ settling (answers.Accepted n) x q h d f = refl
 settling (answers.Full n) x q h d f = refl
 settling (answers.Stale to n) x q h d f = absurd (false≢true f)
 settling (answers.Early n) x q h d f = refl
-settling answers.NoPort x q h d f = refl
-settling answers.Already x q h d f = refl
-settling answers.ClientsFull x q h d f = refl
-settling (answers.Elsewhere to n) x q h d f = refl
 settling answers.NoMember x q h d f = absurd (false≢true d)
 settling (answers.Chosen n) x q h d f = absurd (false≢true d)
 settling answers.Gone x q h d f = refl
+settling _ x q h d f = refl
 
 -- What an answer owes where it is given: that the step relation allows it, and what becomes of the records. The packets `now`
 -- are those under way when the message is decided; none of them is about it.
