@@ -5,8 +5,8 @@ use Rattle.std.specs.List.{All, Contains, flat_map}
 use Rattle.std.proofs.lemmas.Bool.{eqb-true, eq-eqb, false≢true}
 use Rattle.std.proofs.lemmas.List.Elements.{All-nil, All-cons, All-head, All-tail}
 use Rattle.std.specs.Str.{bytes_eq}
-use Rattle.chorus_claims.specs.Pieces.{Piece, Word, Any, Rest, Letter, Choice, chosen, with_word, tails, fits, choices, AllWaysAreChosen, ChoicesAreWays, Extends, IsSoBy}
-use Rattle.chorus_claims.proofs.Lists.{none, here, which, in-flat, of-flat, same-self, from-bytes}
+use Rattle.chorus_claims.specs.Pieces.{Piece, Word, Any, Rest, Letter, Choice, chosen, with_word, tails, fits, choices, AllWaysAreChosen, ChoicesAreWays, Extends, IsSoBy, RestsAreOne}
+use Rattle.chorus_claims.proofs.Lists.{none, here, there, which, in-flat, of-flat, same-self, from-bytes}
 
 some-is : {X : Type 0} (x y : X) → Some x ≡ Some y → x ≡ y
 some-is x y e = cc
@@ -164,3 +164,35 @@ all-ways-are-chosen facts lines e all = all-chosen lines facts ([] ∷ []) e all
 
 pub choices-are-ways : ChoicesAreWays
 choices-are-ways facts lines d h = ways lines facts ([] ∷ []) d h
+
+-- Two `..` side by side.
+
+all-tails : (ws : List (List ℕ)) → Contains (tails ws) ws
+all-tails [] = here [] []
+all-tails (w ∷ ws) = here (w ∷ ws) (tails ws)
+
+tails-again : (ws t u : List (List ℕ)) → Contains (tails ws) t → Contains (tails t) u → Contains (tails ws) u
+tails-again [] t u h k = subst (λ (x : List (List ℕ)). Contains (tails x) u) (sym (only t [] h)) k
+tails-again (w ∷ ws) t u h k = by (which t (w ∷ ws) (tails ws) h) (λ j. tails-again ws t u j k)
+  where
+    by : ((w ∷ ws) ≡ t) ⊎ Contains (tails ws) t → (Contains (tails ws) t → Contains (tails ws) u) → Contains (tails (w ∷ ws)) u
+    by (inl e) ih = subst (λ (x : List (List ℕ)). Contains (tails x) u) (sym e) k
+    by (inr j) ih = there u (w ∷ ws) (tails ws) (ih j)
+
+pub rests-are-one : RestsAreOne
+rests-are-one ps ws c d = (to-one, to-two)
+  where
+    one : List (List ℕ) → List (List Choice)
+    one rest = fits ps rest c
+
+    two : List (List ℕ) → List (List Choice)
+    two rest = flat_map one (tails rest)
+
+    to-one : Contains (flat_map two (tails ws)) d → Contains (flat_map one (tails ws)) d
+    to-one h =
+        let t = of-flat two (tails ws) d h in
+        let u = of-flat one (tails t.0) d t.1.1 in
+        in-flat one (tails ws) u.0 d (tails-again ws t.0 u.0 t.1.0 u.1.0) u.1.1
+
+    to-two : Contains (flat_map one (tails ws)) d → Contains (flat_map two (tails ws)) d
+    to-two h = in-flat two (tails ws) ws d (all-tails ws) h

@@ -6,13 +6,13 @@ use Rattle.std.specs.Str.{bytes_eq}
 use Rattle.std.proofs.lemmas.Bool.{eqb-true, eqb-false}
 use Rattle.std.proofs.lemmas.Bool.Decides.{nat_tests}
 use Rattle.std.proofs.lemmas.List.{get_or-set_same, get_or-set_other, length-set, get_or-replicate}
-use Rattle.chorus_claims.specs.Words.{not_empty, is_and, is_or, is_arrow, is_mark, is_any, is_rest, letter_in, words_in}
+use Rattle.chorus_claims.specs.Words.{not_empty, is_and, is_or, is_middle, is_mark, is_any, is_rest, letter_in, words_in}
 use Rattle.chorus_claims.specs.Pieces.{Piece, Word, Any, Rest, Letter, Choice, chosen, with_word, tails, fits, choices, is_none, is_so, is_one_so, Claim, meets}
-use Rattle.chorus_claims.specs.Shapes.{piece_of, piece_or_word, in_fact, facts_in, behind_arrow, form_in, facts_of, claim_in, claim_of_words}
+use Rattle.chorus_claims.specs.Shapes.{piece_of, piece_or_word, in_fact, facts_in, behind_middle, form_in, facts_of, claim_in, claim_of_words, asked_by}
 use Rattle.chorus_claims.specs.Ways.{letter_step, step_of, behind_step, meaning, with_meaning, way, one_right, all_left, first_fact, later_facts}
 use Rattle.chorus_claims.specs.declared.letters.Step.TheVariants as steps
 use Rattle.chorus_claims.specs.declared.form.Form.{Form}
-use Rattle.chorus_claims.specs.declared.form.Form.TheVariants.{Never, Possible, Always, Implies}
+use Rattle.chorus_claims.specs.declared.form.Form.TheVariants.{Never, Possible, Always, Implies, Before}
 use Rattle.chorus_claims.proofs.Lists.{all-flat, all-one, all-same, and-true}
 
 -- A letter of a claim is one of A (65) to Z (90).
@@ -52,7 +52,7 @@ fine-in p (f ∷ fs) h k = ((h, k.0), k.1)
 
 pub facts-fine : (ws : List (List ℕ)) → AllFine (facts_in ws)
 facts-fine [] = (tt, tt)
-facts-fine (w ∷ ws) = by (is_arrow w) (is_mark w) (facts-fine ws)
+facts-fine (w ∷ ws) = by (is_middle w) (is_mark w) (facts-fine ws)
   where
     by : (arrow mark : Bool) → AllFine (facts_in ws) → AllFine (cond arrow ([] ∷ []) (cond mark ([] ∷ facts_in ws) (in_fact (piece_of w) (facts_in ws))))
     by true mark ih = (tt, tt)
@@ -184,9 +184,13 @@ module _ (lines : List (List (List ℕ))) where
 
 -- The claim.
 
-pub implies-met : (ws : List (List ℕ)) (text : List ℕ) → all_left (words_in text) (facts_in (behind_arrow ws)) (facts_in ws) (replicate 26 None) ≡ meets (claim_in Implies ws) text
+pub implies-met : (ws : List (List ℕ)) (text : List ℕ) → all_left (words_in text) (facts_in (behind_middle ws)) (facts_in ws) (replicate 26 None) ≡ meets (claim_in Implies ws) text
 unfolding meets
-implies-met ws text = left-is (words_in text) (facts_in (behind_arrow ws)) (facts-fine (behind_arrow ws)) (facts_in ws) (facts-fine ws) (replicate 26 None) [] says-none
+implies-met ws text = left-is (words_in text) (facts_in (behind_middle ws)) (facts-fine (behind_middle ws)) (facts_in ws) (facts-fine ws) (replicate 26 None) [] says-none
+
+pub before-met : (ws : List (List ℕ)) (text : List ℕ) → all_left (words_in text) (facts_in ws) (facts_in (behind_middle ws)) (replicate 26 None) ≡ meets (claim_in Before ws) text
+unfolding meets
+before-met ws text = left-is (words_in text) (facts_in ws) (facts-fine ws) (facts_in (behind_middle ws)) (facts-fine (behind_middle ws)) (replicate 26 None) [] says-none
 
 pub never-met : (ws : List (List ℕ)) (text : List ℕ) → all_left (words_in text) [] (facts_in ws) (replicate 26 None) ≡ meets (claim_in Never ws) text
 unfolding meets
@@ -200,9 +204,17 @@ pub always-met : (ws : List (List ℕ)) (text : List ℕ) → one_right (words_i
 unfolding meets
 always-met ws text = left-is (words_in text) (facts_in ws) (facts-fine ws) [] tt (replicate 26 None) [] says-none
 
+-- When a claim is asked does not change what meets it.
+asked-same : (b : Bool) (k : Claim) (text : List ℕ) → meets k text ≡ meets (asked_by b k) text
+unfolding meets
+asked-same b k text = refl
+
 -- A claim that is taken apart in this form, with these words behind it.
-pub as-claimed : (form : Form) (ws vs : List (List ℕ)) (claim : Claim) (text : List ℕ) → form ≡ form_in ws → vs ≡ facts_of ws → claim_of_words ws ≡ claim → meets (claim_in form vs) text ≡ meets claim text
-as-claimed form ws vs claim text forms facts is = ap (λ (k : Claim). meets k text) (ap₂ (λ (f : Form) (us : List (List ℕ)). claim_in f us) forms facts ∙ is)
+pub as-claimed : (form : Form) (ws vs : List (List ℕ)) (claim : Claim) (text : List ℕ) → form ≡ form_in ws → vs ≡ facts_of ws → (b : Bool) × (asked_by b (claim_of_words ws) ≡ claim)
+    → meets (claim_in form vs) text ≡ meets claim text
+as-claimed form ws vs claim text forms facts is =
+    ap (λ (k : Claim). meets k text) (ap₂ (λ (f : Form) (us : List (List ℕ)). claim_in f us) forms facts)
+    ∙ asked-same is.0 (claim_of_words ws) text ∙ ap (λ (k : Claim). meets k text) is.1
 
 pub never-or-possible : (form : Form) (vs : List (List ℕ)) (text : List ℕ) → (form ≡ Never) ⊎ (form ≡ Possible) → all_left (words_in text) [] (facts_in vs) (replicate 26 None) ≡ meets (claim_in form vs) text
 never-or-possible form vs text (inl is) = never-met vs text ∙ ap (λ (f : Form). meets (claim_in f vs) text) (sym is)

@@ -3,16 +3,16 @@
 use Rattle.std.proofs.Common.{ℕ, ◌≡◌, ◌==◌, length, Bool, true, false, not, ◌&&◌, ◌||◌, cond, List, [], ◌∷◌, codes, Option, Some, None, refl, sym, ◌∙◌, ap, subst, arith}
 use Rattle.std.specs.List.{list_all}
 use Rattle.std.proofs.lemmas.Bool.{eqb-true}
-use Rattle.chorus_claims.specs.Words.{not_empty, is_and, is_or, is_arrow, is_mark, is_any, is_rest, letter_in, words_in}
+use Rattle.chorus_claims.specs.Words.{not_empty, is_and, is_or, is_middle, is_mark, is_any, is_rest, letter_in, words_in}
 use Rattle.chorus_claims.specs.Pieces.{Piece, Word, Any, Rest, Letter, tails}
-use Rattle.chorus_claims.specs.Shapes.{piece_of, piece_or_word, in_fact, facts_in, behind_arrow}
-use Rattle.chorus_claims.specs.Ways.{step_of, behind_step, with_meaning, way, one_right, all_left, first_fact, later_facts, goes_on, right_of, way_from, each_line, each_tail}
+use Rattle.chorus_claims.specs.Shapes.{piece_of, piece_or_word, in_fact, facts_in, behind_middle}
+use Rattle.chorus_claims.specs.Ways.{step_of, behind_step, with_meaning, way, one_right, all_left, first_fact, later_facts, goes_on, right_of, way_from, each_line, each_tail, behind_rests}
 use Rattle.chorus_claims.specs.declared.letters.Step.TheVariants as steps
 use Rattle.chorus_claims.specs.declared.matching.Asked.{Asked}
 use Rattle.chorus_claims.specs.declared.matching.Ending.{Ending}
 use Rattle.chorus_claims.specs.declared.matching.Ending.TheVariants.{Goes, Found}
 use Rattle.chorus_lines.specs.Text as text_lines
-use Rattle.chorus_claims.proofs.Lists.{from-bytes}
+use Rattle.chorus_claims.proofs.Lists.{all-same, and-true, from-bytes}
 
 module _ (asked : Asked) (ending : Ending) where
   abbrev lines : List (List (List ℕ))
@@ -29,17 +29,17 @@ module _ (asked : Asked) (ending : Ending) where
   pub at-end : (ps ws : List (List ℕ)) (e : List (Option (List ℕ))) → ps ≡ [] → way_from asked ending ps ws e ≡ (not_empty ws || goes_on ending lines right [] e)
   at-end ps ws e is = ap (λ (qs : List (List ℕ)). way_from asked ending qs ws e) is
 
-  pub at-arrow : (p : List ℕ) (ps ws : List (List ℕ)) (e : List (Option (List ℕ))) → is_arrow p ≡ true → way_from asked ending (p ∷ ps) ws e ≡ (not_empty ws || goes_on ending lines right [] e)
-  at-arrow p ps ws e arrow =
+  pub at-middle : (p : List ℕ) (ps ws : List (List ℕ)) (e : List (Option (List ℕ))) → is_middle p ≡ true → way_from asked ending (p ∷ ps) ws e ≡ (not_empty ws || goes_on ending lines right [] e)
+  at-middle p ps ws e arrow =
       ap (λ (b : Bool). from (cond b ([] ∷ []) (cond (is_mark p) ([] ∷ facts_in ps) (in_fact (piece_of p) (facts_in ps)))) ws e) arrow
 
-  pub at-mark : (p : List ℕ) (ps ws : List (List ℕ)) (e : List (Option (List ℕ))) → is_arrow p ≡ false → is_mark p ≡ true → way_from asked ending (p ∷ ps) ws e ≡ (not_empty ws || goes_on ending lines right (facts_in ps) e)
+  pub at-mark : (p : List ℕ) (ps ws : List (List ℕ)) (e : List (Option (List ℕ))) → is_middle p ≡ false → is_mark p ≡ true → way_from asked ending (p ∷ ps) ws e ≡ (not_empty ws || goes_on ending lines right (facts_in ps) e)
   at-mark p ps ws e arrow mark =
       ap (λ (b : Bool). from (cond b ([] ∷ []) (cond (is_mark p) ([] ∷ facts_in ps) (in_fact (piece_of p) (facts_in ps)))) ws e) arrow
       ∙ ap (λ (b : Bool). from (cond b ([] ∷ facts_in ps) (in_fact (piece_of p) (facts_in ps))) ws e) mark
 
   -- a word that is no mark is a piece of its fact
-  plain : (p : List ℕ) (ps ws : List (List ℕ)) (e : List (Option (List ℕ))) → is_arrow p ≡ false → is_mark p ≡ false → way_from asked ending (p ∷ ps) ws e ≡ from (in_fact (piece_of p) (facts_in ps)) ws e
+  plain : (p : List ℕ) (ps ws : List (List ℕ)) (e : List (Option (List ℕ))) → is_middle p ≡ false → is_mark p ≡ false → way_from asked ending (p ∷ ps) ws e ≡ from (in_fact (piece_of p) (facts_in ps)) ws e
   plain p ps ws e arrow mark =
       ap (λ (b : Bool). from (cond b ([] ∷ []) (cond (is_mark p) ([] ∷ facts_in ps) (in_fact (piece_of p) (facts_in ps)))) ws e) arrow
       ∙ ap (λ (b : Bool). from (cond b ([] ∷ facts_in ps) (in_fact (piece_of p) (facts_in ps))) ws e) mark
@@ -91,13 +91,13 @@ module _ (asked : Asked) (ending : Ending) where
     one-by false false p w facts r = one-in (letter_in p) p w facts
 
   -- no word of the line is left
-  pub at-none : (p : List ℕ) (ps ws : List (List ℕ)) (e : List (Option (List ℕ))) → is_rest p ≡ false → is_arrow p ≡ false → is_mark p ≡ false → ws ≡ [] → way_from asked ending (p ∷ ps) ws e ≡ true
+  pub at-none : (p : List ℕ) (ps ws : List (List ℕ)) (e : List (Option (List ℕ))) → is_rest p ≡ false → is_middle p ≡ false → is_mark p ≡ false → ws ≡ [] → way_from asked ending (p ∷ ps) ws e ≡ true
   at-none p ps ws e rest arrow mark none =
       plain p ps ws e arrow mark ∙ ap (λ (vs : List (List ℕ)). from (in_fact (piece_of p) (facts_in ps)) vs e) none
       ∙ none-by ws e (is_any p) (is_rest p) p (facts_in ps) rest
 
   -- a word of the line
-  pub at-one : (p w : List ℕ) (ps ws : List (List ℕ)) (e : List (Option (List ℕ))) → is_rest p ≡ false → is_arrow p ≡ false → is_mark p ≡ false
+  pub at-one : (p w : List ℕ) (ps ws : List (List ℕ)) (e : List (Option (List ℕ))) → is_rest p ≡ false → is_middle p ≡ false → is_mark p ≡ false
       → way_from asked ending (p ∷ ps) (w ∷ ws) e ≡ behind_step (step_of (piece_of p) w e) (way_from asked ending ps ws e) (λ k. way_from asked ending ps ws (with_meaning k w e))
   at-one p w ps ws e rest arrow mark =
       plain p ps (w ∷ ws) e arrow mark ∙ one-by ws e (is_any p) (is_rest p) p w (facts_in ps) rest
@@ -105,7 +105,7 @@ module _ (asked : Asked) (ending : Ending) where
 -- there is a fact on each side
 some-facts : (ws : List (List ℕ)) → facts_in ws ≡ first_fact (facts_in ws) ∷ later_facts (facts_in ws)
 some-facts [] = refl
-some-facts (w ∷ ws) = by (is_arrow w) (is_mark w) (piece_of w) (facts_in ws)
+some-facts (w ∷ ws) = by (is_middle w) (is_mark w) (piece_of w) (facts_in ws)
   where
     by : (arrow mark : Bool) (p : Piece) (fs : List (List Piece)) →
         cond arrow ([] ∷ []) (cond mark ([] ∷ fs) (in_fact p fs))
@@ -142,3 +142,26 @@ no-lines asked ending ps e text all is h = subst (λ (t : List ℕ). list_all (�
 pub is-empty : (text : List ℕ) → (length text == 0) ≡ true → text ≡ []
 is-empty [] h = refl
 is-empty (c ∷ cs) h = absurd (let e = eqb-true (length (c ∷ cs)) 0 h in omega (arith, e))
+
+-- `..` behind `..`
+
+tails-of : (p : List (List ℕ) → Bool) (ws : List (List ℕ)) → list_all (λ (tail : List (List ℕ)). list_all p (tails tail)) (tails ws) ≡ list_all p (tails ws)
+tails-of p [] = and-true (list_all p (tails []))
+tails-of p (w ∷ ws) = ap (λ (b : Bool). (p (w ∷ ws) && list_all p (tails ws)) && b) (tails-of p ws) ∙ twice (p (w ∷ ws)) (list_all p (tails ws))
+  where
+    twice : (a b : Bool) → ((a && b) && b) ≡ (a && b)
+    twice true true = refl
+    twice true false = refl
+    twice false b = refl
+
+pub rests-behind : (asked : Asked) (ending : Ending) (ps ws : List (List ℕ)) (e : List (Option (List ℕ))) → each_tail asked ending ps ws e ≡ each_tail asked ending (behind_rests ps) ws e
+rests-behind asked ending [] ws e = refl
+rests-behind asked ending (p ∷ ps) ws e = by (is_rest p) refl (rests-behind asked ending ps ws e)
+  where
+    by : (b : Bool) → is_rest p ≡ b → each_tail asked ending ps ws e ≡ each_tail asked ending (behind_rests ps) ws e
+        → each_tail asked ending (p ∷ ps) ws e ≡ each_tail asked ending (cond b (behind_rests ps) (p ∷ ps)) ws e
+    by true is ih =
+        all-same (λ (tail : List (List ℕ)). way_from asked ending (p ∷ ps) tail e) (λ (tail : List (List ℕ)). each_tail asked ending ps tail e) (tails ws) (λ tail. at-rest asked ending p ps tail e is)
+        ∙ tails-of (λ (tail : List (List ℕ)). way_from asked ending ps tail e) ws
+        ∙ ih
+    by false is ih = refl

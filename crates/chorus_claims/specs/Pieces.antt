@@ -12,8 +12,9 @@ pub data Piece : Type 0 where
   Rest : Piece
   Letter : (letter : ℕ) → Piece
 
--- where all facts on the left are so, one on the right is
+-- where all facts on the left are so, one on the right is: at each moment, or else at the end
 pub record Claim : Type 0 where
+  pub throughout : Bool
   pub possible : Bool
   pub left : List (List Piece)
   pub right : List (List Piece)
@@ -71,6 +72,13 @@ is_one_so lines c (fact ∷ facts) = if is_so lines c fact then true else is_one
 unfoldable pub meets : Claim → List ℕ → Bool
 meets k text =
     list_all (λ (c : List Choice). is_one_so (words_in text) c k.right) (choices k.left (words_in text) ([] ∷ []))
+
+-- Two `..` side by side are one: the same words fit, in the same ways.
+abbrev pub RestsAreOne : Type 0
+RestsAreOne =
+    (ps : List Piece) (ws : List (List ℕ)) (c d : List Choice) →
+    (Contains (fits (Rest ∷ Rest ∷ ps) ws c) d → Contains (fits (Rest ∷ ps) ws c) d)
+    × (Contains (fits (Rest ∷ ps) ws c) d → Contains (fits (Rest ∷ Rest ∷ ps) ws c) d)
 
 -- That the choices are those by which all is so.
 

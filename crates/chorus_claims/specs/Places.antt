@@ -6,23 +6,54 @@ use Rattle.std.specs.Str.{bytes_eq}
 use Rattle.chorus_ui.specs.Decimals.{is_decimal}
 use Rattle.chorus_ui.specs.Text.{parse_name}
 use Rattle.chorus_ui.specs.Name.{Name}
-use Rattle.chorus_ui.specs.NameKind.{is_port, is_actor}
+use Rattle.chorus_ui.specs.NameKind.{is_port, is_actor, is_group}
 use Rattle.chorus_ui.specs.declared.limits.TheConstants.{ACTORS_PER_SITE_LIMIT}
 use Rattle.chorus_lines.specs.Text.{is_empty, number_in}
 use Rattle.chorus_claims.specs.Words.{parts, is_any, is_mark, is_rest, letter_in}
 use Rattle.chorus_claims.specs.declared.spelling.Id.{Id}
 use Rattle.chorus_claims.specs.declared.place.Place.{Place}
-use Rattle.chorus_claims.specs.declared.place.Place.TheVariants.{Start, Script, Command, Act, Verdict, Answer, Stale, Port, Actor, Waits, Untested, Ended, Nowhere}
+use Rattle.chorus_claims.specs.declared.place.Place.TheVariants.{Start, Script, Command, Act, Verdict, Answer, Only, Copied, Member, Port, Actor, Accepts, Messages, Moving, Mover, Group, Members, Caller, Call, Holder, Goer, NextCommand, Untested, Ended, Nowhere}
+use Rattle.chorus_claims.specs.declared.place.Kind.{Kind}
+use Rattle.chorus_claims.specs.declared.place.Kind.TheVariants as kinds
 
-unfoldable pub first_place : List ℕ → Place
-first_place w =
-    if bytes_eq w (codes "answer") then Script
-    else if bytes_eq w (codes "verdict") then Verdict
-    else if bytes_eq w (codes "stale") then Stale
-    else if bytes_eq w (codes "port") then Port
+-- the facts of a message: verdict ID ANSWER .., stale ID, open ID, copy ID PORT
+unfoldable pub message_place : List ℕ → Place
+message_place w =
+    if bytes_eq w (codes "verdict") then Verdict
+    else if bytes_eq w (codes "stale") then Only
+    else if bytes_eq w (codes "open") then Only
+    else if bytes_eq w (codes "copy") then Copied
     else Nowhere
 
--- answer SCRIPT COMMAND ACT .., verdict ID ANSWER .., stale ID, port PORT ACTOR ID ID ..
+-- of a port or a group: port PORT ACTOR ID .., accepted PORT ID .., moving PORT ACTOR, members GROUP PORT ..
+unfoldable pub port_place : List ℕ → Place
+port_place w =
+    if bytes_eq w (codes "port") then Port
+    else if bytes_eq w (codes "accepted") then Accepts
+    else if bytes_eq w (codes "moving") then Moving
+    else if bytes_eq w (codes "members") then Group
+    else Nowhere
+
+-- of a script: answer SCRIPT COMMAND ACT .., next SCRIPT COMMAND, outstanding SCRIPT NUMBER, hand SCRIPT CLIENT NUMBER
+unfoldable pub script_place : List ℕ → Place
+script_place w =
+    if bytes_eq w (codes "answer") then Script
+    else if bytes_eq w (codes "next") then Goer
+    else if bytes_eq w (codes "outstanding") then Caller
+    else if bytes_eq w (codes "hand") then Holder
+    else Nowhere
+
+abbrev pub is_nowhere : Place → Bool
+is_nowhere Nowhere = true
+is_nowhere _ = false
+
+-- the place itself, or else another
+abbrev pub place_or : Place → Place → Place
+place_or p q = if is_nowhere p then q else p
+
+abbrev pub first_place : List ℕ → Place
+first_place w = place_or (message_place w) (place_or (port_place w) (script_place w))
+
 abbrev pub fact_behind : Place → List ℕ → Place
 fact_behind Start w = first_place w
 fact_behind Script w = Command (number_in w)
@@ -30,13 +61,48 @@ fact_behind (Command script) w = Act
 fact_behind Act w = Untested
 fact_behind Verdict w = Answer
 fact_behind Answer w = Untested
-fact_behind Stale w = Ended
+fact_behind Only w = Ended
+fact_behind Copied w = Member
+fact_behind Member w = Ended
 fact_behind Port w = Actor
-fact_behind Actor w = Waits
-fact_behind Waits w = Waits
+fact_behind Actor w = Messages
+fact_behind Accepts w = Messages
+fact_behind Messages w = Messages
+fact_behind Moving w = Mover
+fact_behind Mover w = Ended
+fact_behind Group w = Members
+fact_behind Members w = Members
+fact_behind Goer w = NextCommand (number_in w)
+fact_behind (NextCommand script) w = Ended
+fact_behind Holder w = Caller
+fact_behind Caller w = Call
+fact_behind Call w = Ended
 fact_behind Untested w = Untested
 fact_behind Ended w = Ended
 fact_behind Nowhere w = Nowhere
+
+-- what a word is, at its place
+abbrev pub kind_of : Place → Kind
+kind_of Script = kinds.Script
+kind_of Goer = kinds.Script
+kind_of Caller = kinds.Script
+kind_of Holder = kinds.Script
+kind_of (Command script) = kinds.Command script
+kind_of (NextCommand script) = kinds.Command script
+kind_of Call = kinds.Number
+kind_of Verdict = kinds.Message
+kind_of Only = kinds.Message
+kind_of Copied = kinds.Message
+kind_of Messages = kinds.Message
+kind_of Port = kinds.Port
+kind_of Accepts = kinds.Port
+kind_of Moving = kinds.Port
+kind_of Member = kinds.Port
+kind_of Members = kinds.Port
+kind_of Actor = kinds.Actor
+kind_of Mover = kinds.Actor
+kind_of Group = kinds.Group
+kind_of _ = kinds.Other
 
 abbrev pub is_start : Place → Bool
 is_start Start = true
@@ -49,7 +115,8 @@ place_behind p w =
 
 -- a fact may end in front of it
 abbrev pub may_end : Place → Bool
-may_end Waits = true
+may_end Messages = true
+may_end Members = true
 may_end Untested = true
 may_end Ended = true
 may_end Nowhere = true
@@ -98,10 +165,6 @@ is_refusal w =
 abbrev pub is_answer : List ℕ → Bool
 is_answer w = bytes_eq w (codes "accepted") || bytes_eq w (codes "chosen") || is_refusal w
 
-abbrev pub is_nowhere : Place → Bool
-is_nowhere Nowhere = true
-is_nowhere _ = false
-
 -- the first word of a fact
 abbrev pub is_fact : List ℕ → Bool
 is_fact w = not (is_nowhere (first_place w))
@@ -139,18 +202,18 @@ abbrev pub is_named : (Name → Bool) → Option Name → Bool
 is_named test None = false
 is_named test (Some u) = test u
 
-abbrev pub spelled : Place → List ℕ → Bool
-spelled Script w = is_decimal w
-spelled (Command script) w = is_decimal w
-spelled Verdict w = is_some (id_in w)
-spelled Stale w = is_some (id_in w)
-spelled Waits w = is_some (id_in w)
-spelled Port w = is_named is_port (parse_name w)
-spelled Actor w = is_named is_actor (parse_name w)
-spelled _ w = true
+abbrev pub spelled : Kind → List ℕ → Bool
+spelled kinds.Script w = is_decimal w
+spelled (kinds.Command script) w = is_decimal w
+spelled kinds.Number w = is_decimal w
+spelled kinds.Message w = is_some (id_in w)
+spelled kinds.Port w = is_named is_port (parse_name w)
+spelled kinds.Actor w = is_named is_actor (parse_name w)
+spelled kinds.Group w = is_named is_group (parse_name w)
+spelled kinds.Other w = true
 
 abbrev pub is_spelled : Place → List ℕ → Bool
-is_spelled p w = is_open w || spelled p w
+is_spelled p w = is_open w || spelled (kind_of p) w
 
 -- Test 7: decimals are below 2^64.
 
@@ -162,16 +225,15 @@ abbrev pub is_small_id : Option Id → Bool
 is_small_id None = true
 is_small_id (Some x) = nat_lt x.seat (2 ^ 64) && nat_lt x.number (2 ^ 64) && nat_lt x.copy (2 ^ 64)
 
-abbrev pub within : Place → List ℕ → Bool
-within Script w = is_small (number_in w)
-within (Command script) w = is_small (number_in w)
-within Verdict w = is_small_id (id_in w)
-within Stale w = is_small_id (id_in w)
-within Waits w = is_small_id (id_in w)
+abbrev pub within : Kind → List ℕ → Bool
+within kinds.Script w = is_small (number_in w)
+within (kinds.Command script) w = is_small (number_in w)
+within kinds.Number w = is_small (number_in w)
+within kinds.Message w = is_small_id (id_in w)
 within _ w = true
 
 abbrev pub is_within : Place → List ℕ → Bool
-is_within p w = is_open w || within p w
+is_within p w = is_open w || within (kind_of p) w
 
 -- Test 8: there is such a one.
 
@@ -206,15 +268,15 @@ is_at_a_site sites u = nat_le u.site sites
 abbrev pub is_at_an_actor : ℕ → Name → Bool
 is_at_an_actor sites u = nat_le u.site sites && nat_le u.number ACTORS_PER_SITE_LIMIT
 
-abbrev pub known : ℕ → List ℕ → Place → List ℕ → Bool
-known sites commands Script w = is_a_script commands (number_in w)
-known sites commands (Command script) w = is_some_command commands script (number_in w)
-known sites commands Verdict w = is_posted commands (id_in w)
-known sites commands Stale w = is_posted commands (id_in w)
-known sites commands Waits w = is_posted commands (id_in w)
-known sites commands Port w = is_named (is_at_a_site sites) (parse_name w)
-known sites commands Actor w = is_named (is_at_an_actor sites) (parse_name w)
-known sites commands _ w = true
+abbrev pub known : ℕ → List ℕ → Kind → List ℕ → Bool
+known sites commands kinds.Script w = is_a_script commands (number_in w)
+known sites commands (kinds.Command script) w = is_some_command commands script (number_in w)
+known sites commands kinds.Number w = true
+known sites commands kinds.Message w = is_posted commands (id_in w)
+known sites commands kinds.Port w = is_named (is_at_a_site sites) (parse_name w)
+known sites commands kinds.Actor w = is_named (is_at_an_actor sites) (parse_name w)
+known sites commands kinds.Group w = is_named (is_at_a_site sites) (parse_name w)
+known sites commands kinds.Other w = true
 
 abbrev pub is_known : ℕ → List ℕ → Place → List ℕ → Bool
-is_known sites commands p w = is_open w || known sites commands p w
+is_known sites commands p w = is_open w || known sites commands (kind_of p) w

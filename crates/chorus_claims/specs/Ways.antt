@@ -4,7 +4,7 @@ use Rattle.std.specs.Prelude.{ℕ, ◌≤◌, ◌-◌, Bool, true, false, not, �
 use Rattle.std.specs.List.{list_all}
 use Rattle.std.specs.Option.{option_copied}
 use Rattle.std.specs.Str.{bytes_eq}
-use Rattle.chorus_claims.specs.Words.{not_empty, words_behind, words_in}
+use Rattle.chorus_claims.specs.Words.{is_rest, not_empty, words_behind, words_in}
 use Rattle.chorus_claims.specs.Pieces.{Piece, Word, Any, Rest, Letter, tails}
 use Rattle.chorus_claims.specs.Shapes.{facts_in}
 use Rattle.chorus_claims.specs.declared.letters.Letters.{Letters}
@@ -93,6 +93,11 @@ goes_on Found lines right facts e = false
 abbrev pub right_of : Right → List (List Piece)
 right_of Nothing = []
 right_of (Facts text) = facts_in (words_behind (option_copied text))
+
+-- what stands behind the `..` that stand here
+abbrev pub behind_rests : List (List ℕ) → List (List ℕ)
+behind_rests [] = []
+behind_rests (p ∷ ps) = if is_rest p then behind_rests ps else p ∷ ps
 
 abbrev pub way_from : Asked → Ending → List (List ℕ) → List (List ℕ) → List (Option (List ℕ)) → Bool
 way_from asked ending ps ws e =

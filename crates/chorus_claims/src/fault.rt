@@ -8,11 +8,11 @@ ghost use Rattle.chorus_claims.specs.Shapes.{fault_of, are_facts, are_within, fi
 ghost use Rattle.chorus_claims.specs.Tests.{passes};
 ghost use Rattle.chorus_claims.specs.declared.place.Place.TheVariants.{Start};
 
-use crate::form::{Form, are_few, marks_fit, side_of, split_form};
+use crate::form::{Form, are_few, marks_fit, may_be_throughout, side_of, split_form};
 use crate::known::is_known;
 use crate::place::{Place, may_end, place_behind};
 use crate::spelling::{is_spelled, is_within, is_word};
-use crate::words::{Words, long_form};
+use crate::words::{Words, long_form, split_throughout};
 use chorus_lines::Reason;
 
 /// The reason for which a text that stands behind `claim` is refused, in a scenario of so many sites whose scripts have so many
@@ -23,9 +23,10 @@ use chorus_lines::Reason;
 pub fn fault_of(sites: u8, commands: &[u32], text: &[u8]) -> Option<Reason>
     ensures { result ≡ fault_of sites commands.now text.now }
 {
-    let (form, facts) = split_form(long_form(text));
+    let (throughout, asked) = split_throughout(text);
+    let (form, facts) = split_form(long_form(asked));
     first_fault(
-        are_facts(form, facts),
+        are_facts(throughout, form, facts),
         each_word(Test::Spelled, facts),
         are_within(facts),
         each_word(Test::Known(sites, commands), facts),
@@ -102,11 +103,14 @@ fn last_place(facts: Option<&[u8]>) -> Place
     place
 }
 
-/// Whether these are words of facts with the marks of the form between them.
-fn are_facts(form: Form, facts: Option<&[u8]>) -> bool
-    ensures { result ≡ are_facts form (words_behind (option_copied facts.entry)) }
+/// Whether these are words of facts with the marks of the form between them, and `throughout` may stand in front of it, where it does.
+fn are_facts(throughout: bool, form: Form, facts: Option<&[u8]>) -> bool
+    ensures { result ≡ are_facts throughout form (words_behind (option_copied facts.entry)) }
 {
-    marks_fit(side_of(form), facts) && each_word(Test::Fits, facts) && may_end(last_place(facts))
+    (!throughout || may_be_throughout(form))
+        && marks_fit(side_of(form), facts)
+        && each_word(Test::Fits, facts)
+        && may_end(last_place(facts))
 }
 
 /// Whether no number, and no number of facts, is beyond its limit.

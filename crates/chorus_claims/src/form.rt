@@ -3,9 +3,9 @@
 ghost use Rattle.std.specs.Prelude.{◌≡◌};
 ghost use Rattle.std.specs.Option.{option_copied};
 ghost use Rattle.chorus_claims.specs.Words.{words, words_behind};
-ghost use Rattle.chorus_claims.specs.Shapes.{form_of, form_in, facts_of, side_of, mark_fits, side_behind, is_left, marks_fit, are_few};
+ghost use Rattle.chorus_claims.specs.Shapes.{form_of, form_by_mark, form_in, facts_of, may_be_throughout, side_of, mark_fits, side_behind, is_left, marks_fit, are_few};
 
-use crate::words::{Words, is_and, is_arrow, is_mark, is_or};
+use crate::words::{Words, is_and, is_arrow, is_before, is_mark, is_middle, is_or};
 use chorus_lines::cut;
 
 /// The form of a claim.
@@ -19,6 +19,8 @@ pub enum Form {
     Always,
     /// `FACT & FACT .. => FACT | FACT ..`: where all on the left are so, one on the right is.
     Implies,
+    /// `FIRST before SECOND`: at each moment at which the second is so, the first is.
+    Before,
 }
 
 /// The side of a claim on which a word stands.
@@ -30,9 +32,13 @@ pub enum Side {
     Left,
     /// Facts with `|` between them.
     Ors,
+    /// One fact, in front of `before`.
+    First,
+    /// One fact, behind `before`.
+    Alone,
 }
 
-/// The form that the first word of a claim tells.
+/// The form that the first word of a claim tells; where that is a fact's, the mark between both sides does.
 #[tactic(auto, unfolding(crate::specs::Shapes::form_of))]
 pub(crate) fn form_of(word: &[u8]) -> Form
     ensures { result ≡ form_of word.now }
@@ -48,6 +54,29 @@ pub(crate) fn form_of(word: &[u8]) -> Form
     }
 }
 
+/// The form of a claim that begins with a fact, by the first mark between its sides.
+fn form_by_mark(text: &[u8]) -> Form
+    ensures { result ≡ form_by_mark (words text.now) }
+{
+    let mut words = Words::new(Some(text));
+    while let Some(word) = words.next() {
+        if is_before(word) {
+            return Form::Before;
+        }
+        if is_arrow(word) {
+            return Form::Implies;
+        }
+    }
+    Form::Implies
+}
+
+/// Whether `throughout` may stand in front of a claim of the form.
+pub(crate) fn may_be_throughout(form: Form) -> bool
+    ensures { result ≡ may_be_throughout form }
+{
+    !matches!(form, Form::Possible | Form::Before)
+}
+
 /// The side on which the facts of a claim begin.
 pub(crate) fn side_of(form: Form) -> Side
     ensures { result ≡ side_of form }
@@ -56,6 +85,7 @@ pub(crate) fn side_of(form: Form) -> Side
         Form::Never | Form::Possible => Side::Ands,
         Form::Always => Side::Ors,
         Form::Implies => Side::Left,
+        Form::Before => Side::First,
     }
 }
 
@@ -64,9 +94,11 @@ fn mark_fits(side: Side, word: &[u8]) -> bool
     ensures { result ≡ mark_fits side word.now }
 {
     match side {
-        Side::Ands => !is_or(word) && !is_arrow(word),
-        Side::Left => !is_or(word),
-        Side::Ors => !is_and(word) && !is_arrow(word),
+        Side::Ands => !is_or(word) && !is_middle(word),
+        Side::Left => !is_or(word) && !is_before(word),
+        Side::Ors => !is_and(word) && !is_middle(word),
+        Side::First => !is_and(word) && !is_or(word) && !is_arrow(word),
+        Side::Alone => !is_mark(word),
     }
 }
 
@@ -84,17 +116,25 @@ fn side_behind(side: Side, word: &[u8]) -> Side
             }
         }
         Side::Ors => Side::Ors,
+        Side::First => {
+            if is_before(word) {
+                Side::Alone
+            } else {
+                Side::First
+            }
+        }
+        Side::Alone => Side::Alone,
     }
 }
 
-/// Whether an arrow has to come.
+/// Whether the mark between both sides has to come.
 fn is_left(side: Side) -> bool
     ensures { result ≡ is_left side }
 {
-    matches!(side, Side::Left)
+    matches!(side, Side::Left | Side::First)
 }
 
-/// Whether each mark is one of its side, and there is an arrow where there should be.
+/// Whether each mark is one of its side, and there is one between both sides where there should be.
 pub(crate) fn marks_fit(side: Side, facts: Option<&[u8]>) -> bool
     ensures { result ≡ marks_fit side (words_behind (option_copied facts.entry)) }
 {
@@ -116,7 +156,7 @@ pub(crate) fn are_few(more: u8, facts: Option<&[u8]>) -> bool
     let mut words = Words::new(facts);
     let mut left = more;
     while let Some(word) = words.next() {
-        if is_arrow(word) {
+        if is_middle(word) {
             left = 3;
         } else if is_mark(word) {
             if left == 0 {
@@ -136,7 +176,7 @@ pub(crate) fn split_form(text: &[u8]) -> (Form, Option<&[u8]>)
 {
     let (word, rest) = cut(b' ', text);
     match form_of(word) {
-        Form::Implies => (Form::Implies, Some(text)),
+        Form::Implies => (form_by_mark(text), Some(text)),
         form => (form, rest),
     }
 }

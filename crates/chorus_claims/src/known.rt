@@ -4,7 +4,7 @@ ghost use Rattle.std.specs.Prelude.{◌≡◌, nat_le};
 ghost use Rattle.std.specs.List.{list_any};
 ghost use Rattle.chorus_claims.specs.Places.{is_numbered, commands_of, is_command, is_a_script, is_some_command, is_posted, is_at_a_site, is_at_an_actor, is_named, known, is_known};
 
-use crate::place::Place;
+use crate::place::{Kind, Place, kind_of};
 use crate::spelling::{Id, id_in, is_open};
 use chorus_lines::number_in;
 use chorus_ui::{ACTORS_PER_SITE_LIMIT, Ui};
@@ -94,17 +94,17 @@ fn is_at_an_actor(sites: u8, name: Option<Ui>) -> bool
     }
 }
 
-/// Whether there is what the word names at the place.
-fn known(sites: u8, commands: &[u32], place: Place, word: &[u8]) -> bool
-    ensures { result ≡ known sites commands.now place word.now }
+/// Whether there is what a word of the kind names.
+fn known(sites: u8, commands: &[u32], kind: Kind, word: &[u8]) -> bool
+    ensures { result ≡ known sites commands.now kind word.now }
 {
-    match place {
-        Place::Script => is_a_script(commands, number_in(word)),
-        Place::Command(script) => is_some_command(commands, script, number_in(word)),
-        Place::Verdict | Place::Stale | Place::Waits => is_posted(commands, id_in(word)),
-        Place::Port => is_at_a_site(sites, Ui::parse(word)),
-        Place::Actor => is_at_an_actor(sites, Ui::parse(word)),
-        _ => true,
+    match kind {
+        Kind::Script => is_a_script(commands, number_in(word)),
+        Kind::Command(script) => is_some_command(commands, script, number_in(word)),
+        Kind::Message => is_posted(commands, id_in(word)),
+        Kind::Port | Kind::Group => is_at_a_site(sites, Ui::parse(word)),
+        Kind::Actor => is_at_an_actor(sites, Ui::parse(word)),
+        Kind::Number | Kind::Other => true,
     }
 }
 
@@ -112,5 +112,5 @@ fn known(sites: u8, commands: &[u32], place: Place, word: &[u8]) -> bool
 pub(crate) fn is_known(sites: u8, commands: &[u32], place: Place, word: &[u8]) -> bool
     ensures { result ≡ is_known sites commands.now place word.now }
 {
-    is_open(word) || known(sites, commands, place, word)
+    is_open(word) || known(sites, commands, kind_of(place), word)
 }

@@ -21,5 +21,5 @@ mod words;
 
 pub use claim::{Claim, read_claim};
 pub use fault::fault_of;
-pub use laws::{all_ways_are_chosen, choices_are_ways};
+pub use laws::{all_ways_are_chosen, choices_are_ways, rests_are_one};
 pub use matching::meets;

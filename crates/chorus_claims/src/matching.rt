@@ -1,17 +1,17 @@
 //! Whether lines of facts meet a claim, looked for word by word. It takes no memory.
 
-ghost use Rattle.std.specs.Prelude.{◌≡◌, ◌≢◌, ◌<◌, [], ◌∷◌, length, MatchOption, IfSome, None, replicate};
+ghost use Rattle.std.specs.Prelude.{◌≡◌, ◌≢◌, ◌<◌, ◌≤◌, [], ◌∷◌, length, MatchOption, IfSome, None, replicate};
 ghost use Rattle.std.specs.Option.{option_copied};
 ghost use Rattle.chorus_lines.specs.Text.{lines};
 ghost use Rattle.chorus_claims.specs.Words.{text_left, words_behind, words_in};
 ghost use Rattle.chorus_claims.specs.Pieces.{meets};
-ghost use Rattle.chorus_claims.specs.Shapes.{facts_in, behind_arrow};
-ghost use Rattle.chorus_claims.specs.Ways.{meanings_of, way_from, each_line, one_right, goes_on, later_facts, right_of, each_tail, all_left};
+ghost use Rattle.chorus_claims.specs.Shapes.{facts_in, behind_middle};
+ghost use Rattle.chorus_claims.specs.Ways.{behind_rests, meanings_of, way_from, each_line, one_right, goes_on, later_facts, right_of, each_tail, all_left};
 
 use crate::claim::Claim;
 use crate::form::{Form, split_form};
 use crate::letters::{Letters, Step, step_of};
-use crate::words::{has_words, is_arrow, is_mark, is_rest, next_word};
+use crate::words::{has_words, is_mark, is_middle, is_rest, next_word};
 use chorus_lines::cut;
 
 /// The facts on the right of a claim: none, or those that stand here.
@@ -52,9 +52,9 @@ fn way_from<'a>(
     let mut line = line;
     while let Some((piece, behind)) = next_word(pieces) {
         if is_rest(piece) {
-            return each_tail(asked, ending, behind, line, letters);
+            return each_tail(asked, ending, behind_rests(behind), line, letters);
         }
-        if is_arrow(piece) {
+        if is_middle(piece) {
             return has_words(line) || ends(asked, ending, letters);
         }
         if is_mark(piece) {
@@ -183,6 +183,22 @@ fn one_fact<'a>(asked: &Asked<'a>, fact: Option<&'a [u8]>, letters: &Letters<'a>
     }
 }
 
+/// What stands behind the `..` that stand here: with one that stands in front of them they are one.
+fn behind_rests(pieces: Option<&[u8]>) -> Option<&[u8]>
+    ensures words { words_behind (option_copied result)
+        ≡ behind_rests (words_behind (option_copied pieces.entry)) }
+    ensures shorter { text_left (option_copied result) ≤ text_left (option_copied pieces.entry) }
+{
+    let mut left = pieces;
+    while let Some((piece, behind)) = next_word(left) {
+        if !is_rest(piece) {
+            return left;
+        }
+        left = behind;
+    }
+    left
+}
+
 /// What stands behind the mark that ends the fact that begins here. None exactly where it is the last of its side.
 fn behind_fact(fact: Option<&[u8]>) -> Option<Option<&[u8]>>
     ensures facts { MatchOption result
@@ -194,7 +210,7 @@ fn behind_fact(fact: Option<&[u8]>) -> Option<Option<&[u8]>>
 {
     let mut left = fact;
     while let Some((word, behind)) = next_word(left) {
-        if is_arrow(word) {
+        if is_middle(word) {
             return None;
         }
         if is_mark(word) {
@@ -205,14 +221,14 @@ fn behind_fact(fact: Option<&[u8]>) -> Option<Option<&[u8]>>
     None
 }
 
-/// What stands behind the arrow, where there is one.
-fn behind_arrow(facts: Option<&[u8]>) -> Option<&[u8]>
+/// What stands behind the mark between both sides, where there is one.
+fn behind_middle(facts: Option<&[u8]>) -> Option<&[u8]>
     ensures { words_behind (option_copied result)
-        ≡ behind_arrow (words_behind (option_copied facts.entry)) }
+        ≡ behind_middle (words_behind (option_copied facts.entry)) }
 {
     let mut left = facts;
     while let Some((word, behind)) = next_word(left) {
-        if is_arrow(word) {
+        if is_middle(word) {
             return behind;
         }
         left = behind;
@@ -247,7 +263,8 @@ pub fn meets(claim: &Claim, lines: &[u8]) -> bool
             },
             &Letters::new(),
         ),
-        Form::Implies => all_left(lines, Right::Facts(behind_arrow(facts)), facts),
+        Form::Implies => all_left(lines, Right::Facts(behind_middle(facts)), facts),
+        Form::Before => all_left(lines, Right::Facts(facts), behind_middle(facts)),
     }
 }
 

@@ -1,11 +1,11 @@
 //! What is asked of a word, by its place in a claim.
 
 ghost use Rattle.std.specs.Prelude.{◌≡◌, is_some};
-ghost use Rattle.chorus_ui.specs.NameKind.{is_port, is_actor};
+ghost use Rattle.chorus_ui.specs.NameKind.{is_port, is_actor, is_group};
 ghost use Rattle.chorus_ui.specs.Text.{parse_name};
 ghost use Rattle.chorus_claims.specs.Places.{is_free, is_open, is_post_act, is_port_act, is_group_act, is_act, is_refusal, is_answer, is_fact, word_fits, is_word, id_in, is_named, spelled, is_spelled, is_small, is_small_id, within, is_within};
 
-use crate::place::{Place, may_end, starts_fact};
+use crate::place::{Kind, Place, kind_of, may_end, starts_fact};
 use crate::words::{is_any, is_mark, is_rest, letter_in};
 use chorus_lines::{BEYOND, cut, number_in};
 use chorus_ui::{Ui, is_decimal};
@@ -150,16 +150,17 @@ pub(crate) fn id_in(word: &[u8]) -> Option<Id>
     })
 }
 
-/// Whether the word is spelled as said at the place.
-fn spelled(place: Place, word: &[u8]) -> bool
-    ensures { result ≡ spelled place word.now }
+/// Whether the word is spelled as a word of the kind.
+fn spelled(kind: Kind, word: &[u8]) -> bool
+    ensures { result ≡ spelled kind word.now }
 {
-    match place {
-        Place::Script | Place::Command(_) => is_decimal(word),
-        Place::Verdict | Place::Stale | Place::Waits => id_in(word).is_some(),
-        Place::Port => names_port(Ui::parse(word)),
-        Place::Actor => names_actor(Ui::parse(word)),
-        _ => true,
+    match kind {
+        Kind::Script | Kind::Command(_) | Kind::Number => is_decimal(word),
+        Kind::Message => id_in(word).is_some(),
+        Kind::Port => names_port(Ui::parse(word)),
+        Kind::Actor => names_actor(Ui::parse(word)),
+        Kind::Group => names_group(Ui::parse(word)),
+        Kind::Other => true,
     }
 }
 
@@ -183,11 +184,21 @@ fn names_actor(name: Option<Ui>) -> bool
     }
 }
 
+/// Whether it is the name of a group.
+fn names_group(name: Option<Ui>) -> bool
+    ensures { result ≡ is_named is_group name }
+{
+    match name {
+        Some(group) => group.is_group(),
+        None => false,
+    }
+}
+
 /// Whether nothing is spelled wrong at the place.
 pub(crate) fn is_spelled(place: Place, word: &[u8]) -> bool
     ensures { result ≡ is_spelled place word.now }
 {
-    is_open(word) || spelled(place, word)
+    is_open(word) || spelled(kind_of(place), word)
 }
 
 /// Whether the number has 64 bits.
@@ -210,13 +221,13 @@ fn is_small_id(id: Option<Id>) -> bool
     }
 }
 
-/// Whether the decimals of the word at the place have 64 bits.
-fn within(place: Place, word: &[u8]) -> bool
-    ensures { result ≡ within place word.now }
+/// Whether the decimals of a word of the kind have 64 bits.
+fn within(kind: Kind, word: &[u8]) -> bool
+    ensures { result ≡ within kind word.now }
 {
-    match place {
-        Place::Script | Place::Command(_) => is_small(number_in(word)),
-        Place::Verdict | Place::Stale | Place::Waits => is_small_id(id_in(word)),
+    match kind {
+        Kind::Script | Kind::Command(_) | Kind::Number => is_small(number_in(word)),
+        Kind::Message => is_small_id(id_in(word)),
         _ => true,
     }
 }
@@ -225,5 +236,5 @@ fn within(place: Place, word: &[u8]) -> bool
 pub(crate) fn is_within(place: Place, word: &[u8]) -> bool
     ensures { result ≡ is_within place word.now }
 {
-    is_open(word) || within(place, word)
+    is_open(word) || within(kind_of(place), word)
 }

@@ -2,7 +2,7 @@
 
 ghost use Rattle.std.specs.Prelude.{◌≡◌, ℕ, ◌≤◌, ◌<◌, List, [], ◌∷◌, MatchOption, IfSome};
 ghost use Rattle.std.specs.Option.{option_copied};
-ghost use Rattle.chorus_claims.specs.Words.{text_left, not_empty, words_behind, long_form, long_reply_form, is_and, is_or, is_arrow, is_mark, is_any, is_rest, letter_in};
+ghost use Rattle.chorus_claims.specs.Words.{text_left, not_empty, words_behind, behind_throughout, is_throughout, asked_text, long_form, long_call_form, is_and, is_or, is_arrow, is_before, is_middle, is_mark, is_any, is_rest, letter_in};
 
 use chorus_lines::cut;
 use std::marker::Model;
@@ -72,19 +72,47 @@ pub(crate) fn long_form(text: &[u8]) -> &[u8]
     } else if text == b"nothing left".as_slice() {
         b"port P A .. => port P A".as_slice()
     } else {
-        long_reply_form(text)
+        long_call_form(text)
     }
 }
 
-/// The same, of the short form that speaks of replies.
-#[tactic(auto, unfolding(crate::specs::Words::long_reply_form))]
-fn long_reply_form(text: &[u8]) -> &[u8]
-    ensures { result.now ≡ long_reply_form text.now }
+/// The same, of the short forms that speak of calls.
+#[tactic(auto, unfolding(crate::specs::Words::long_call_form))]
+fn long_call_form(text: &[u8]) -> &[u8]
+    ensures { result.now ≡ long_call_form text.now }
 {
     if text == b"requests replied".as_slice() {
         b"answer S * take * X .. & answer C * post X * * request N .. => answer S * post * port * reply C N ..".as_slice()
+    } else if text == b"nothing late".as_slice() {
+        b"never answer * * take * * late *".as_slice()
+    } else if text == b"calls settled".as_slice() {
+        b"never outstanding * *".as_slice()
     } else {
         text
+    }
+}
+
+/// What stands behind the word `throughout`, where that is the first of the text.
+#[tactic(auto, unfolding(crate::specs::Words::behind_throughout))]
+fn behind_throughout(text: &[u8]) -> Option<&[u8]>
+    ensures { option_copied result ≡ behind_throughout text.now }
+{
+    let (word, behind) = cut(b' ', text);
+    if word == b"throughout".as_slice() {
+        behind
+    } else {
+        None
+    }
+}
+
+/// Whether `throughout` stands in front of what the text claims, and that.
+pub(crate) fn split_throughout(text: &[u8]) -> (bool, &[u8])
+    ensures throughout { result.0 ≡ is_throughout text.now }
+    ensures asked { result.1.now ≡ asked_text text.now }
+{
+    match behind_throughout(text) {
+        Some(behind) => (true, behind),
+        None => (false, text),
     }
 }
 
@@ -102,18 +130,32 @@ pub(crate) fn is_or(word: &[u8]) -> bool
     word == b"|".as_slice()
 }
 
-/// Whether the word is the mark between both sides of a claim.
+/// Whether the word is the mark behind the facts on the left, in front of those on the right.
 pub(crate) fn is_arrow(word: &[u8]) -> bool
     ensures { result ≡ is_arrow word.now }
 {
     word == b"=>".as_slice()
 }
 
+/// Whether the word is the mark behind the fact that is the first to be so.
+pub(crate) fn is_before(word: &[u8]) -> bool
+    ensures { result ≡ is_before word.now }
+{
+    word == b"before".as_slice()
+}
+
+/// Whether the word is a mark between both sides of a claim.
+pub(crate) fn is_middle(word: &[u8]) -> bool
+    ensures { result ≡ is_middle word.now }
+{
+    is_arrow(word) || is_before(word)
+}
+
 /// Whether the word is a mark between facts.
 pub(crate) fn is_mark(word: &[u8]) -> bool
     ensures { result ≡ is_mark word.now }
 {
-    is_and(word) || is_or(word) || is_arrow(word)
+    is_and(word) || is_or(word) || is_middle(word)
 }
 
 /// Whether the word of a claim stands for any one word.

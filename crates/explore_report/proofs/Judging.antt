@@ -1,6 +1,6 @@
 -- Histories more are judged, that come to one text.
 -- claims are judged one after the other, so many so far.
-use Rattle.std.proofs.Common.{ℕ, zero, suc, ◌≡◌, ◌≢◌, ◌+◌, ◌<◌, ◌≤◌, Bool, true, false, List, [], ◌∷◌, ◌++◌, length, reverse, get_or, set, Some, slice_get, ◌⊎◌, inl, inr, refl, sym, ◌∙◌, ap, subst, arith}
+use Rattle.std.proofs.Common.{ℕ, zero, suc, min, ◌≡◌, ◌≢◌, ◌+◌, ◌<◌, ◌≤◌, Bool, true, false, not, ◌&&◌, ◌||◌, cond, List, [], ◌∷◌, ◌++◌, length, reverse, get_or, set, Some, None, slice_get, ◌⊎◌, inl, inr, refl, sym, ◌∙◌, ap, subst, arith}
 use Rattle.std.specs.List.{All, Contains}
 use Rattle.std.proofs.lemmas.Bool.{cases_lt, false≢true}
 use Rattle.std.proofs.lemmas.List.{length-set}
@@ -10,7 +10,7 @@ use Rattle.chorus_claims.specs.Pieces.{Claim, meets}
 use Rattle.explore_report.specs.declared.judgements.Judgement.{Judgement}
 use Rattle.explore_report.specs.declared.judgements.Judgement.TheVariants.{Met, Failed}
 use Rattle.explore_report.specs.Findings.{AreLater, ComeTo}
-use Rattle.explore_report.specs.Judgements.{AreJudged, FailsFirst, IsJudged, Judges, JudgesAll, has_failed}
+use Rattle.explore_report.specs.Judgements.{AreJudged, FailsFirst, IsJudged, Judges, JudgesAll, JudgesAt, KeepFirst, has_failed, unmet_at, unmet_in, unmet_with}
 
 module _ (comes : List Move → List ℕ) (hs ks : List (List Move)) (k : Claim) (text : List ℕ) (h : List Move) (told : ℕ) (is : ComeTo comes text h told ks) (later : AreLater hs ks) where
   abbrev IsMet : List Move → Type 0
@@ -69,6 +69,93 @@ module _ (k : Claim) (text : List ℕ) (h : List Move) where
   comes-to-fail j no_ e ms lines at same comes hs ks told is later was =
       now-fails comes hs ks k text h told is later e (met-before comes hs ks k text h told is later j no_ was) ms lines at same
 
+-- At a moment, of which the claim is asked.
+module _ (k : Claim) (text : List ℕ) (h : List Move) (old new : Judgement) where
+  pub at-end : Judges k text h old new → JudgesAt true k text h old new
+  at-end judges comes moments ends ks told is later later-ends was = by k.throughout was
+    where
+      by : (b : Bool) → IsJudged comes (cond b moments ends) k old → IsJudged comes (cond b (moments ++ ks) (ends ++ ks)) k new
+      by true w = judges comes moments ks told is later w
+      by false w = judges comes ends ks told is later-ends w
+
+  pub at-moment : k.throughout ≡ true → Judges k text h old new → JudgesAt false k text h old new
+  at-moment throughout judges comes moments ends ks told is later later-ends was = by k.throughout throughout was
+    where
+      by : (b : Bool) → b ≡ true → IsJudged comes (cond b moments ends) k old → IsJudged comes (cond b (moments ++ ks) ends) k new
+      by true e w = judges comes moments ks told is later w
+      by false e w = absurd (false≢true e)
+
+pub not-asked : (k : Claim) (text : List ℕ) (h : List Move) (j : Judgement) → k.throughout ≡ false → JudgesAt false k text h j j
+not-asked k text h j no_ comes moments ends ks told is later later-ends was = by k.throughout no_ was
+  where
+    by : (b : Bool) → b ≡ false → IsJudged comes (cond b moments ends) k j → IsJudged comes (cond b (moments ++ ks) ends) k j
+    by true e w = absurd (false≢true (sym e))
+    by false e w = w
+
+pub asked-at-end : (is_end : Bool) (k : Claim) (text : List ℕ) (h : List Move) (old new : Judgement) → is_end ≡ true → Judges k text h old new → JudgesAt is_end k text h old new
+asked-at-end true k text h old new e judges = at-end k text h old new judges
+asked-at-end false k text h old new e judges = absurd (false≢true e)
+
+pub asked-throughout : (is_end : Bool) (k : Claim) (text : List ℕ) (h : List Move) (old new : Judgement) → k.throughout ≡ true → Judges k text h old new → JudgesAt is_end k text h old new
+asked-throughout true k text h old new e judges = at-end k text h old new judges
+asked-throughout false k text h old new e judges = at-moment k text h old new e judges
+
+pub none-asked : (is_end : Bool) (k : Claim) (text : List ℕ) (h : List Move) (j : Judgement) → (not is_end && not k.throughout) ≡ true → JudgesAt is_end k text h j j
+none-asked true k text h j e = absurd (false≢true e)
+none-asked false k text h j e = not-asked k text h j (by k.throughout e)
+  where
+    by : (b : Bool) → not b ≡ true → b ≡ false
+    by true e = absurd (false≢true e)
+    by false e = refl
+
+-- a claim that is asked at no moment any more
+pub none-wanted : (k : Claim) (text : List ℕ) (h : List Move) (j : Judgement) → (k.throughout && not (has_failed j)) ≡ false → JudgesAt false k text h j j
+none-wanted k text h j e = by k.throughout refl e
+  where
+    failed : (b : Bool) → not b ≡ false → b ≡ true
+    failed true e = refl
+    failed false e = absurd (false≢true (sym e))
+
+    by : (b : Bool) → k.throughout ≡ b → (b && not (has_failed j)) ≡ false → JudgesAt false k text h j j
+    by true is e = at-moment k text h j j is (stays-failed k text h j (failed (has_failed j) e))
+    by false is e = not-asked k text h j is
+
+-- What is kept of a claim.
+
+module _ (k : Claim) (text : List ℕ) (h : List Move) where
+  pub keeps-failed : (j : Judgement) → has_failed j ≡ true → unmet_in j ≡ unmet_with k text h (unmet_in j)
+  keeps-failed Met e = absurd (false≢true e)
+  keeps-failed (Failed moves lines) e = refl
+
+  pub keeps-met : (j : Judgement) → meets k text ≡ true → unmet_in j ≡ unmet_with k text h (unmet_in j)
+  keeps-met Met e = ap (λ b. cond b None (Some (h, text))) (sym e)
+  keeps-met (Failed moves lines) e = refl
+
+  pub comes-unmet : (j : Judgement) → has_failed j ≡ false → meets k text ≡ false → (ms : List Move) (lines : List ℕ) → ms ≡ h → lines ≡ text → Some (ms, lines) ≡ unmet_with k text h (unmet_in j)
+  comes-unmet Met no_ e ms lines at same = (λ i. Some (at i, same i)) ∙ ap (λ b. cond b None (Some (h, text))) (sym e)
+  comes-unmet (Failed moves lines') no_ e ms lines at same = absurd (false≢true (sym no_))
+
+  pub keeps-asked : (is_end : Bool) (old new : Judgement) → (is_end || k.throughout) ≡ true → unmet_in new ≡ unmet_with k text h (unmet_in old) → unmet_in new ≡ unmet_at is_end k text h (unmet_in old)
+  keeps-asked is_end old new e keeps = keeps ∙ ap (λ b. cond b (unmet_with k text h (unmet_in old)) (unmet_in old)) (sym e)
+
+  pub keeps-unasked : (is_end : Bool) (j : Judgement) → (is_end || k.throughout) ≡ false → unmet_in j ≡ unmet_at is_end k text h (unmet_in j)
+  keeps-unasked is_end j e = ap (λ b. cond b (unmet_with k text h (unmet_in j)) (unmet_in j)) (sym e)
+
+  pub keeps-unwanted : (j : Judgement) → (k.throughout && not (has_failed j)) ≡ false → unmet_in j ≡ unmet_at false k text h (unmet_in j)
+  keeps-unwanted j e = by (has_failed j) refl e
+    where
+      unasked : (b : Bool) → (b && true) ≡ false → b ≡ false
+      unasked true e = e
+      unasked false e = refl
+
+      either : (b : Bool) → unmet_in j ≡ unmet_with k text h (unmet_in j) → unmet_in j ≡ cond b (unmet_with k text h (unmet_in j)) (unmet_in j)
+      either true e = e
+      either false e = refl
+
+      by : (b : Bool) → has_failed j ≡ b → (k.throughout && not b) ≡ false → unmet_in j ≡ unmet_at false k text h (unmet_in j)
+      by true is e = either k.throughout (keeps-failed j is)
+      by false is e = keeps-unasked false j (unasked k.throughout e)
+
 -- One after the other.
 
 get-set-other : {X : Type 0} (xs : List X) (i j : ℕ) (x : X) → j ≢ i → slice_get (set xs i x) j ≡ slice_get xs j
@@ -86,64 +173,78 @@ get-set-same (y ∷ xs) (suc i) x lt = get-set-same xs i x (omega (arith, lt))
 some-is : {X : Type 0} (x y : X) → Some x ≡ Some y → x ≡ y
 some-is x y e = cc
 
+-- a claim is judged, and of it the first history is kept that does not meet it
+abbrev pub IsDone : Bool → Claim → List ℕ → List Move → Judgement → Judgement → Type 0
+IsDone is_end k text h old new = JudgesAt is_end k text h old new × (unmet_in new ≡ unmet_at is_end k text h (unmet_in old))
+
 -- the first so many of the claims were judged, and what was found of the others is as it was
-pub record AreSoFar (claims : List Claim) (text : List ℕ) (h : List Move) (old now : List Judgement) (n : ℕ) : Type 0 where
+pub record AreSoFar (is_end : Bool) (claims : List Claim) (text : List ℕ) (h : List Move) (old now : List Judgement) (n : ℕ) : Type 0 where
   pub many : length now ≡ length old
-  pub passed : (i : ℕ) (k : Claim) (j j' : Judgement) → i < n → slice_get claims i ≡ Some k → slice_get old i ≡ Some j → slice_get now i ≡ Some j' → Judges k text h j j'
+  pub passed : (i : ℕ) (k : Claim) (j j' : Judgement) → i < n → slice_get claims i ≡ Some k → slice_get old i ≡ Some j → slice_get now i ≡ Some j' → IsDone is_end k text h j j'
   pub rest : (i : ℕ) → n ≤ i → slice_get now i ≡ slice_get old i
 
-pub none-yet : (claims : List Claim) (text : List ℕ) (h : List Move) (old : List Judgement) → AreSoFar claims text h old old 0
-none-yet claims text h old = record {
+pub none-yet : (is_end : Bool) (claims : List Claim) (text : List ℕ) (h : List Move) (old : List Judgement) → AreSoFar is_end claims text h old old 0
+none-yet is_end claims text h old = record {
   many = refl;
   passed = λ i k j j' lt. absurd (omega (arith, lt));
   rest = λ i le. refl;
 }
 
-pub one-more : (claims : List Claim) (text : List ℕ) (h : List Move) (old now : List Judgement) (n : ℕ) (k : Claim) (j j' : Judgement) → AreSoFar claims text h old now n
-    → slice_get claims n ≡ Some k → slice_get now n ≡ Some j → n < length now → Judges k text h j j' → AreSoFar claims text h old (set now n j') (n + 1)
-one-more claims text h old now n k j j' so claim at lt judges = record {
+pub one-more : (is_end : Bool) (claims : List Claim) (text : List ℕ) (h : List Move) (old now : List Judgement) (n : ℕ) (k : Claim) (j j' : Judgement) → AreSoFar is_end claims text h old now n
+    → slice_get claims n ≡ Some k → slice_get now n ≡ Some j → n < length now → IsDone is_end k text h j j' → AreSoFar is_end claims text h old (set now n j') (n + 1)
+one-more is_end claims text h old now n k j j' so claim at lt judges = record {
   many = length-set now n j' ∙ so.many;
   passed = λ i k2 o o2 less c a b. by i k2 o o2 (cases_lt i n) less c a b;
   rest = λ i le. get-set-other now n i j' (λ e. omega (arith, le, e)) ∙ so.rest i (omega (arith, le));
 }
   where
-    by : (i : ℕ) (k2 : Claim) (o o2 : Judgement) → (i < n) ⊎ (n ≤ i) → i < n + 1 → slice_get claims i ≡ Some k2 → slice_get old i ≡ Some o → slice_get (set now n j') i ≡ Some o2 → Judges k2 text h o o2
+    by : (i : ℕ) (k2 : Claim) (o o2 : Judgement) → (i < n) ⊎ (n ≤ i) → i < n + 1 → slice_get claims i ≡ Some k2 → slice_get old i ≡ Some o → slice_get (set now n j') i ≡ Some o2 → IsDone is_end k2 text h o o2
     by i k2 o o2 (inl l) less c a b = so.passed i k2 o o2 l c a (sym (get-set-other now n i j' (λ e. omega (arith, l, e))) ∙ b)
     by i k2 o o2 (inr l) less c a b =
         let is : i ≡ n = omega (arith, l, less) in
         let same-k : k ≡ k2 = some-is k k2 (sym claim ∙ sym (ap (slice_get claims) is) ∙ c) in
         let same-o : j ≡ o = some-is j o (sym at ∙ so.rest n (omega arith) ∙ sym (ap (slice_get old) is) ∙ a) in
         let same-n : j' ≡ o2 = some-is j' o2 (sym (get-set-same now n j' lt) ∙ sym (ap (slice_get (set now n j')) is) ∙ b) in
-        subst (λ (x : Judgement). Judges k2 text h o x) same-n (subst (λ (x : Judgement). Judges k2 text h x j') same-o (subst (λ (x : Claim). Judges x text h j j') same-k judges))
+        subst (λ (x : Judgement). IsDone is_end k2 text h o x) same-n (subst (λ (x : Judgement). IsDone is_end k2 text h x j') same-o (subst (λ (x : Claim). IsDone is_end x text h j j') same-k judges))
 
-has-some : {X : Type 0} (xs : List X) (i : ℕ) → i < length xs → (x : X) × (slice_get xs i ≡ Some x)
+pub has-some : {X : Type 0} (xs : List X) (i : ℕ) → i < length xs → (x : X) × (slice_get xs i ≡ Some x)
 has-some [] i lt = absurd (omega (arith, lt))
 has-some (x ∷ xs) zero lt = (x, refl)
 has-some (x ∷ xs) (suc i) lt = has-some xs i (omega (arith, lt))
 
-get-below : {X : Type 0} (xs : List X) (i : ℕ) (x : X) → slice_get xs i ≡ Some x → i < length xs
+pub get-below : {X : Type 0} (xs : List X) (i : ℕ) (x : X) → slice_get xs i ≡ Some x → i < length xs
 get-below [] i x e = absurd (cc)
 get-below (y ∷ xs) zero x e = omega arith
 get-below (y ∷ xs) (suc i) x e = let l = get-below xs i x e in omega (arith, l)
 
-pub all-judged : (claims : List Claim) (text : List ℕ) (h : List Move) (old now : List Judgement) (n : ℕ) → (length old ≡ length claims → length claims ≤ n) → AreSoFar claims text h old now n → JudgesAll claims text h old now
-all-judged claims text h old now n all so comes hs ks told is later was = record {
+pub all-judged : (is_end : Bool) (claims : List Claim) (text : List ℕ) (h : List Move) (old now : List Judgement) (n : ℕ) → min (length claims) (length now) ≤ n → AreSoFar is_end claims text h old now n → JudgesAll is_end claims text h old now
+all-judged is_end claims text h old now n all so comes moments ends ks told is later later-ends was = record {
   many = so.many ∙ was.many;
   each = λ i k j c b.
       (let lt = get-below claims i k c in
-      let m = was.many in
-      let far = all m in
-      let o = has-some old i (omega (arith, lt, m)) in
-      so.passed i k o.0 j (omega (arith, lt, far)) c o.1 b comes hs ks told is later (was.each i k o.0 c o.1));
+      let within = get-below now i j b in
+      let m = so.many in
+      let o = has-some old i (omega (arith, within, m)) in
+      (so.passed i k o.0 j (omega (arith, lt, within, all)) c o.1 b).0 comes moments ends ks told is later later-ends (was.each i k o.0 c o.1));
+}
+
+pub all-kept : (is_end : Bool) (claims : List Claim) (text : List ℕ) (h : List Move) (old now : List Judgement) (n : ℕ) → min (length claims) (length now) ≤ n → AreSoFar is_end claims text h old now n → KeepFirst is_end claims text h old now
+all-kept is_end claims text h old now n all so = record {
+  many = so.many;
+  each = λ i k o j c a b. (let lt = get-below claims i k c in let within = get-below now i j b in (so.passed i k o j (omega (arith, lt, within, all)) c a b).1);
 }
 
 -- No history was looked at.
-pub nothing-found : (comes : List Move → List ℕ) (claims : List Claim) (judged : List Judgement) → length judged ≡ length claims → All (λ (j : Judgement). has_failed j ≡ false) judged → AreJudged comes [] claims judged
+pub nothing-found : (comes : List Move → List ℕ) (claims : List Claim) (judged : List Judgement) → length judged ≡ length claims → All (λ (j : Judgement). has_failed j ≡ false) judged → AreJudged comes [] [] claims judged
 nothing-found comes claims judged many none = record {
   many = many;
-  each = λ i k j c b. nothing k j (found judged i j none b);
+  each = λ i k j c b. either k.throughout k j (nothing k j (found judged i j none b));
 }
   where
+    either : (b : Bool) (k : Claim) (j : Judgement) → IsJudged comes [] k j → IsJudged comes (cond b [] []) k j
+    either true k j h = h
+    either false k j h = h
+
     nothing : (k : Claim) (j : Judgement) → has_failed j ≡ false → IsJudged comes [] k j
     nothing k Met e = All-nil (λ (x : List Move). meets k (comes x) ≡ true)
     nothing k (Failed moves lines) e = absurd (false≢true (sym e))
@@ -153,7 +254,38 @@ nothing-found comes claims judged many none = record {
     found (x ∷ js) zero j all e = ap has_failed (sym (some-is x j e)) ∙ all 0 x (omega arith)
     found (x ∷ js) (suc i) j all e = found js i j (λ n d lt. all (suc n) d (omega (arith, lt))) e
 
+pub none-kept : (judged : List Judgement) → All (λ (j : Judgement). has_failed j ≡ false) judged → All (λ (j : Judgement). unmet_in j ≡ None) judged
+none-kept judged none = All-weaker (λ (j : Judgement). has_failed j ≡ false) (λ (j : Judgement). unmet_in j ≡ None) one judged none
+  where
+    one : (j : Judgement) → has_failed j ≡ false → unmet_in j ≡ None
+    one Met e = refl
+    one (Failed moves lines) e = absurd (false≢true (sym e))
+
 pub read-at : {X : Type 0} (xs : List X) (i : ℕ) (x : X) → i < length xs → x ≡ get_or xs i x → slice_get xs i ≡ Some x
 read-at [] i x lt e = absurd (omega (arith, lt))
 read-at (y ∷ xs) zero x lt e = ap (λ z. Some z) (sym e)
 read-at (y ∷ xs) (suc i) x lt e = read-at xs i x (omega (arith, lt)) e
+
+-- None of the first so many claims is asked at a moment any more.
+abbrev pub NoneWanted : List Claim → List Judgement → ℕ → Type 0
+NoneWanted claims judged n =
+    (i : ℕ) (k : Claim) (j : Judgement) → i < n → slice_get claims i ≡ Some k → slice_get judged i ≡ Some j → (text : List ℕ) (h : List Move) → IsDone false k text h j j
+
+pub none-more : (claims : List Claim) (judged : List Judgement) (n : ℕ) (k : Claim) (j : Judgement) → NoneWanted claims judged n → slice_get claims n ≡ Some k → slice_get judged n ≡ Some j
+    → ((text : List ℕ) (h : List Move) → IsDone false k text h j j) → NoneWanted claims judged (n + 1)
+none-more claims judged n k j so claim at none i k2 j2 less c a text h = by (cases_lt i n)
+  where
+    by : (i < n) ⊎ (n ≤ i) → IsDone false k2 text h j2 j2
+    by (inl lt) = so i k2 j2 lt c a text h
+    by (inr ge) =
+        let is : i ≡ n = omega (arith, ge, less) in
+        let same-k : k ≡ k2 = some-is k k2 (sym claim ∙ sym (ap (slice_get claims) is) ∙ c) in
+        let same-j : j ≡ j2 = some-is j j2 (sym at ∙ sym (ap (slice_get judged) is) ∙ a) in
+        subst (λ (x : Judgement). IsDone false k2 text h x x) same-j (subst (λ (x : Claim). IsDone false x text h j j) same-k (none text h))
+
+pub none-so-far : (claims : List Claim) (judged : List Judgement) (n : ℕ) → NoneWanted claims judged n → (text : List ℕ) (h : List Move) → AreSoFar false claims text h judged judged n
+none-so-far claims judged n so text h = record {
+  many = refl;
+  passed = λ i k j j' lt c a b. subst (λ (x : Judgement). IsDone false k text h j x) (some-is j j' (sym a ∙ b)) (so i k j lt c a text h);
+  rest = λ i le. refl;
+}

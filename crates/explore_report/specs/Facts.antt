@@ -11,7 +11,8 @@ use Rattle.chorus_entry.specs.declared.id.MsgId.{MsgId}
 use Rattle.chorus_entry.specs.declared.message.Message.{Message}
 use Rattle.chorus_show.specs.Lines.{act_text, answer_text}
 use Rattle.chorus_show.specs.Phrases.{phrase, id_text}
-use Rattle.law_explore.specs.Outcome.{Fact, Answered, Judged, Stale, Held, Outcome}
+use Rattle.law_explore.specs.Outcome.{Fact, Answered, Judged, Stale, Held, Settled, Open, Copied, Moving, Members, Calls, Holds, Next, Outcome}
+use Rattle.law_explore.specs.Outcome as facts
 
 -- an act without the numbers that only tell when
 abbrev pub plain_act_text : Act → List ℕ
@@ -37,6 +38,16 @@ fact_line (Judged x verdict) = phrase (codes "verdict") (id_text x ∷ verdict_t
 fact_line (Stale x) = phrase (codes "stale") (id_text x ∷ []) ++ 10 ∷ []
 fact_line (Held q actor waiting) =
     phrase (codes "port") (name_text q ∷ name_text actor ∷ map id_text waiting) ++ 10 ∷ []
+fact_line (Settled k i act settles) =
+    phrase (codes "answer") (decimal k ∷ decimal i ∷ plain_act_text act ∷ act_text settles ∷ []) ++ 10 ∷ []
+fact_line (Open x) = phrase (codes "open") (id_text x ∷ []) ++ 10 ∷ []
+fact_line (Copied x q) = phrase (codes "copy") (id_text x ∷ name_text q ∷ []) ++ 10 ∷ []
+fact_line (facts.Accepted q ids) = phrase (codes "accepted") (name_text q ∷ map id_text ids) ++ 10 ∷ []
+fact_line (Moving q actor) = phrase (codes "moving") (name_text q ∷ name_text actor ∷ []) ++ 10 ∷ []
+fact_line (Members g qs) = phrase (codes "members") (name_text g ∷ map name_text qs) ++ 10 ∷ []
+fact_line (Calls k n) = phrase (codes "outstanding") (decimal k ∷ decimal n ∷ []) ++ 10 ∷ []
+fact_line (Holds k client n) = phrase (codes "hand") (decimal k ∷ decimal client ∷ decimal n ∷ []) ++ 10 ∷ []
+fact_line (Next k i) = phrase (codes "next") (decimal k ∷ decimal i ∷ []) ++ 10 ∷ []
 
 -- the ids of the messages
 abbrev pub waiting_in : List Message → List MsgId

@@ -1,9 +1,9 @@
 //! The lines of facts.
 
-ghost use Rattle.std.specs.Prelude.{◌≡◌, ◌∷◌, ◌++◌, OnOk, map, codes, decimal};
+ghost use Rattle.std.specs.Prelude.{◌≡◌, ◌∷◌, ◌++◌, OnOk, map, codes, decimal, []};
 ghost use Rattle.chorus_ui.specs.Text.{name_text};
-ghost use Rattle.chorus_show.specs.Phrases.{spaced, id_text};
-ghost use Rattle.law_explore.specs.Outcome.{Answered, Judged, Stale, port_fact};
+ghost use Rattle.chorus_show.specs.Phrases.{phrase, spaced, id_text};
+ghost use Rattle.law_explore.specs.Outcome.{Accepted, Answered, Calls, Copied, Holds, Judged, Members, Moving, Next, Open, Settled, Stale, port_fact};
 ghost use Rattle.explore_report.specs.Facts.{waiting_in, plain_act_text, plain_answer_text, fact_line};
 
 use chorus_entry::{Act, Answer, MsgId, PortRecord};
@@ -92,12 +92,9 @@ fn push_depart(port: Ui, to: u16, actor: Ui, out: &mut Vec<u8>) -> Result<(), Al
     push_name(actor, out)
 }
 
-/// Appends the line of a fact about a message: its verdict; none is `chosen`.
-pub(crate) fn push_judged(
-    id: &MsgId,
-    verdict: Option<Answer>,
-    out: &mut Vec<u8>,
-) -> Result<(), AllocError>
+/// Appends the line of a fact about a message: its verdict; none is `chosen`. The only error is want of memory; the line may then be
+/// cut off.
+pub fn push_judged(id: &MsgId, verdict: Option<Answer>, out: &mut Vec<u8>) -> Result<(), AllocError>
     ensures { OnOk result (out.new.items ≡ out.old.items ++ fact_line (Judged id.now verdict)) }
 {
     out.extend_from_slice(b"verdict")?;
@@ -111,8 +108,9 @@ pub(crate) fn push_judged(
     Ok(())
 }
 
-/// Appends the line of the fact that the message was told `stale`.
-pub(crate) fn push_stale(id: &MsgId, out: &mut Vec<u8>) -> Result<(), AllocError>
+/// Appends the line of the fact that the message was told `stale`. The only error is want of memory; the line may then be cut off,
+/// as those of the facts below.
+pub fn push_stale(id: &MsgId, out: &mut Vec<u8>) -> Result<(), AllocError>
     ensures { OnOk result (out.new.items ≡ out.old.items ++ fact_line (Stale id.now)) }
 {
     out.extend_from_slice(b"stale")?;
@@ -134,7 +132,7 @@ fn push_plain_answer(answer: &Answer, out: &mut Vec<u8>) -> Result<(), AllocErro
 }
 
 /// Appends the line of a fact about a held port: its actor, and the messages that wait in it.
-pub(crate) fn push_held(port: &PortRecord, out: &mut Vec<u8>) -> Result<(), AllocError>
+pub fn push_held(port: &PortRecord, out: &mut Vec<u8>) -> Result<(), AllocError>
     ensures { OnOk result (out.new.items ≡ out.old.items ++ fact_line (port_fact port.now)) }
 {
     out.extend_from_slice(b"port")?;
@@ -155,5 +153,162 @@ fn push_waiting(port: &PortRecord, out: &mut Vec<u8>) -> Result<(), AllocError>
             push_message(&message.id, out)?;
         }
     }
+    Ok(())
+}
+
+/// Appends the line of how a command is answered that took a reply: as above, and whether the reply ended the script's call.
+pub fn push_settled(
+    script: u64,
+    number: u64,
+    act: &Act,
+    settles: &Act,
+    out: &mut Vec<u8>,
+) -> Result<(), AllocError>
+    ensures { OnOk result (out.new.items
+        ≡ out.old.items ++ fact_line (Settled script number act.now settles.now)) }
+{
+    push_what_answered(script, number, act, out)?;
+    out.push(b' ')?;
+    push_act(settles, out)?;
+    out.push(b'\n')?;
+    Ok(())
+}
+
+/// Appends of a line how the command is answered.
+fn push_what_answered(
+    script: u64,
+    number: u64,
+    act: &Act,
+    out: &mut Vec<u8>,
+) -> Result<(), AllocError>
+    ensures { OnOk result (out.new.items ≡ out.old.items ++ phrase (codes "answer")
+        (decimal script ∷ decimal number ∷ plain_act_text act.now ∷ [])) }
+{
+    out.extend_from_slice(b"answer")?;
+    push_number(script, out)?;
+    push_number(number, out)?;
+    out.push(b' ')?;
+    push_plain_act(act, out)
+}
+
+/// Appends the line of the fact that the message was posted and is not settled.
+pub fn push_open(id: &MsgId, out: &mut Vec<u8>) -> Result<(), AllocError>
+    ensures { OnOk result (out.new.items ≡ out.old.items ++ fact_line (Open id.now)) }
+{
+    out.extend_from_slice(b"open")?;
+    push_message(id, out)?;
+    out.push(b'\n')?;
+    Ok(())
+}
+
+/// Appends the line of the fact that the copy goes to the port.
+pub fn push_copied(id: &MsgId, port: Ui, out: &mut Vec<u8>) -> Result<(), AllocError>
+    ensures { OnOk result (out.new.items ≡ out.old.items ++ fact_line (Copied id.now port)) }
+{
+    out.extend_from_slice(b"copy")?;
+    push_message(id, out)?;
+    push_name(port, out)?;
+    out.push(b'\n')?;
+    Ok(())
+}
+
+/// Appends the line of the fact that the port has accepted these messages.
+pub fn push_accepted(port: Ui, ids: &[MsgId], out: &mut Vec<u8>) -> Result<(), AllocError>
+    ensures { OnOk result (out.new.items ≡ out.old.items ++ fact_line (Accepted port ids.now)) }
+{
+    out.extend_from_slice(b"accepted")?;
+    push_name(port, out)?;
+    push_each_message(ids, out)?;
+    out.push(b'\n')?;
+    Ok(())
+}
+
+/// Appends the ids to a line, each behind a space.
+fn push_each_message(ids: &[MsgId], out: &mut Vec<u8>) -> Result<(), AllocError>
+    ensures { OnOk result (out.new.items ≡ out.old.items ++ spaced (map id_text ids.now)) }
+{
+    for id in ids {
+        push_message(id, out)?;
+    }
+    Ok(())
+}
+
+/// Appends the line of the fact that the port is on its way to the actor.
+pub fn push_moving(port: Ui, actor: Ui, out: &mut Vec<u8>) -> Result<(), AllocError>
+    ensures { OnOk result (out.new.items ≡ out.old.items ++ fact_line (Moving port actor)) }
+{
+    out.extend_from_slice(b"moving")?;
+    push_name(port, out)?;
+    push_name(actor, out)?;
+    out.push(b'\n')?;
+    Ok(())
+}
+
+/// Appends the line of the fact that the group has these members.
+pub fn push_members(group: Ui, ports: &[Ui], out: &mut Vec<u8>) -> Result<(), AllocError>
+    ensures { OnOk result (out.new.items ≡ out.old.items ++ fact_line (Members group ports.now)) }
+{
+    out.extend_from_slice(b"members")?;
+    push_name(group, out)?;
+    push_each_name(ports, out)?;
+    out.push(b'\n')?;
+    Ok(())
+}
+
+/// Appends the names to a line, each behind a space.
+fn push_each_name(names: &[Ui], out: &mut Vec<u8>) -> Result<(), AllocError>
+    ensures { OnOk result (out.new.items ≡ out.old.items ++ spaced (map name_text names.now)) }
+{
+    for name in names {
+        push_name(*name, out)?;
+    }
+    Ok(())
+}
+
+/// Appends the line of the fact that the script's call of this number is outstanding.
+pub fn push_calls(script: u64, number: u32, out: &mut Vec<u8>) -> Result<(), AllocError>
+    ensures { OnOk result (out.new.items ≡ out.old.items ++ fact_line (Calls script number)) }
+{
+    out.extend_from_slice(b"outstanding")?;
+    push_numbers(script, u64::from(number), out)?;
+    out.push(b'\n')?;
+    Ok(())
+}
+
+/// Appends two numbers to a line, each behind a space.
+fn push_numbers(one: u64, two: u64, out: &mut Vec<u8>) -> Result<(), AllocError>
+    ensures { OnOk result
+        (out.new.items ≡ out.old.items ++ spaced (decimal one ∷ decimal two ∷ [])) }
+{
+    push_number(one, out)?;
+    push_number(two, out)
+}
+
+/// Appends the line of the fact that the script holds the client's request of this number.
+pub fn push_holds(
+    script: u64,
+    client: u32,
+    number: u32,
+    out: &mut Vec<u8>,
+) -> Result<(), AllocError>
+    ensures { OnOk result
+        (out.new.items ≡ out.old.items ++ fact_line (Holds script client number)) }
+{
+    out.extend_from_slice(b"hand")?;
+    push_number(script, out)?;
+    push_number(u64::from(client), out)?;
+    push_number(u64::from(number), out)?;
+    out.push(b'\n')?;
+    Ok(())
+}
+
+/// Appends the line of the fact that this is the script's next command.
+pub fn push_next(script: u64, number: u64, out: &mut Vec<u8>) -> Result<(), AllocError>
+    ensures { OnOk result (out.new.items ≡ out.old.items ++ fact_line (Next script number)) }
+{
+    out.extend_from_slice(b"next")?;
+    push_number(script, out)?;
+    push_number(number, out)?;
+    out.push(b'\n')?;
     Ok(())
 }

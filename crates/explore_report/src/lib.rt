@@ -23,9 +23,12 @@ mod outcomes;
 mod text;
 
 pub use explored::Explored;
-pub use facts::push_answered;
+pub use facts::{
+    push_accepted, push_answered, push_calls, push_copied, push_held, push_holds, push_judged,
+    push_members, push_moving, push_next, push_open, push_settled, push_stale,
+};
 pub use findings::{Finding, Findings};
-pub use judgements::{Judgement, have_all_failed, judge_all, not_yet_judged};
+pub use judgements::{Judgement, have_all_failed, judge_all, not_yet_judged, want_moments};
 pub use laws::{differences_tell_all_outcomes, single_facts_tell_all_outcomes};
 pub use outcomes::{is_stale_at, push_all_ports, push_messages, verdict_at};
 pub use text::{push_count, push_steps, report};

@@ -2,3 +2,4 @@ pub mod Fitting
 pub mod Meeting
 pub mod Shortened
 pub mod Few
+pub mod Before

@@ -1,11 +1,12 @@
 -- The short forms, as they are meant.
 use Rattle.std.proofs.Common.{ℕ, ◌≡◌, Bool, true, false, List, [], ◌∷◌, ◌++◌, codes, Option, Some, None, ◌⊎◌, inl, inr, refl, sym, ◌∙◌, ap, subst}
 use Rattle.std.specs.List.{Contains, list_all}
-use Rattle.chorus_claims.specs.Words.{words_in, parts, long_form, long_reply_form}
+use Rattle.chorus_lines.specs.Text.{cut}
+use Rattle.chorus_claims.specs.Words.{words_in, parts, behind_throughout, long_form, long_call_form}
 use Rattle.chorus_claims.specs.Pieces.{Piece, Word, Any, Rest, Letter, Choice, Claim, chosen, choices, is_one_so, meets}
 use Rattle.chorus_claims.specs.Shapes.{form_of, claim_of, fault_of}
-use Rattle.chorus_claims.specs.Places.{first_place, is_post_act, is_port_act, is_group_act, is_refusal}
-use Rattle.law_claims.specs.Short.{Says, IsTaken, RefusesNothing, IsReceived, Waits, LosesNothing, LeavesNothing, IsReplied, RepliesToRequests, ShortFormsAreClaims, NothingRefused, NothingLost, NothingLeft, RequestsReplied}
+use Rattle.chorus_claims.specs.Places.{message_place, port_place, script_place, is_post_act, is_port_act, is_group_act, is_refusal}
+use Rattle.law_claims.specs.Short.{Says, IsTaken, RefusesNothing, IsReceived, Waits, LosesNothing, LeavesNothing, IsReplied, RepliesToRequests, IsLate, IsOutstanding, ShortFormsAreClaims, NothingRefused, NothingLost, NothingLeft, RequestsReplied, NothingLate, CallsSettled}
 use Rattle.law_claims.proofs.Fitting.{put, Fit}
 use Rattle.law_claims.proofs.Meeting.{word-first, any-first, bound-first, free-first, nothing-left, to-end, ends-same, SoBy, OneOf, one-met, met-one, two-met, met-two}
 
@@ -24,14 +25,14 @@ accepted = codes "accepted"
 abbrev all-met : List (List (List ℕ)) → List (List Piece) → List (List Piece) → Bool
 all-met lines left right = list_all (λ (c : List Choice). is_one_so lines c right) (choices left lines ([] ∷ []))
 
-opened : (possible : Bool) (left right : List (List Piece)) (text : List ℕ) → meets (record { possible = possible; left = left; right = right }) text ≡ all-met (words_in text) left right
+opened : (throughout possible : Bool) (left right : List (List Piece)) (text : List ℕ) → meets (record { throughout = throughout; possible = possible; left = left; right = right }) text ≡ all-met (words_in text) left right
 unfolding meets
-opened possible left right text = refl
+opened throughout possible left right text = refl
 
-said : (claim : List ℕ) (left right : List (List Piece)) (IsSo : List (List (List ℕ)) → Type 0) → claim_of claim ≡ record { possible = false; left = left; right = right }
+said : (claim : List ℕ) (left right : List (List Piece)) (IsSo : List (List (List ℕ)) → Type 0) → claim_of claim ≡ record { throughout = false; possible = false; left = left; right = right }
     → ((lines : List (List (List ℕ))) → all-met lines left right ≡ true → IsSo lines) → ((lines : List (List (List ℕ))) → IsSo lines → all-met lines left right ≡ true) → Says claim IsSo
 said claim left right IsSo is to from text =
-    let same = ap (λ k. meets k text) is ∙ opened false left right text in
+    let same = ap (λ k. meets k text) is ∙ opened false false left right text in
     ((λ met. to (words_in text) (sym same ∙ met)), (λ so. same ∙ from (words_in text) so))
 
 -- nothing refused
@@ -45,8 +46,8 @@ verdict-of it = Word verdict ∷ Letter 88 ∷ Word it ∷ []
 abbrev refused-right : List (List Piece)
 refused-right = verdict-of accepted ∷ verdict-of (codes "chosen") ∷ []
 
-refused-is : claim_of (codes "nothing refused") ≡ record { possible = false; left = refused-left ∷ []; right = refused-right }
-unfolding claim_of long_form parts form_of
+refused-is : claim_of (codes "nothing refused") ≡ record { throughout = false; possible = false; left = refused-left ∷ []; right = refused-right }
+unfolding claim_of behind_throughout cut long_form parts form_of
 refused-is = refl
 
 verdict-line : (x it : List ℕ) (ws : List (List ℕ)) (c d : List Choice) → chosen 88 c ≡ Some x → Fit (verdict-of it) ws c d → ws ≡ verdict ∷ x ∷ it ∷ []
@@ -93,8 +94,8 @@ left-left = Word port ∷ Letter 80 ∷ Letter 65 ∷ Rest ∷ []
 abbrev left-right : List Piece
 left-right = Word port ∷ Letter 80 ∷ Letter 65 ∷ []
 
-left-is : claim_of (codes "nothing left") ≡ record { possible = false; left = left-left ∷ []; right = left-right ∷ [] }
-unfolding claim_of long_form parts form_of
+left-is : claim_of (codes "nothing left") ≡ record { throughout = false; possible = false; left = left-left ∷ []; right = left-right ∷ [] }
+unfolding claim_of behind_throughout cut long_form parts form_of
 left-is = refl
 
 module _ (lines : List (List (List ℕ))) where
@@ -137,8 +138,8 @@ received = Word answer ∷ Any ∷ Any ∷ Word (codes "take") ∷ Any ∷ Lette
 abbrev waiting : List Piece
 waiting = Word port ∷ Any ∷ Any ∷ Rest ∷ Letter 88 ∷ Rest ∷ []
 
-lost-is : claim_of (codes "nothing lost") ≡ record { possible = false; left = lost-left ∷ []; right = received ∷ waiting ∷ [] }
-unfolding claim_of long_form parts form_of
+lost-is : claim_of (codes "nothing lost") ≡ record { throughout = false; possible = false; left = lost-left ∷ []; right = received ∷ waiting ∷ [] }
+unfolding claim_of behind_throughout cut long_form parts form_of
 lost-is = refl
 
 module _ (lines : List (List (List ℕ))) (x : List ℕ) where
@@ -211,8 +212,8 @@ asked = Word answer ∷ Letter 67 ∷ Any ∷ Word (codes "post") ∷ Letter 88 
 abbrev replied : List Piece
 replied = Word answer ∷ Letter 83 ∷ Any ∷ Word (codes "post") ∷ Any ∷ Word port ∷ Any ∷ Word (codes "reply") ∷ Letter 67 ∷ Letter 78 ∷ Rest ∷ []
 
-replied-is : claim_of (codes "requests replied") ≡ record { possible = false; left = took ∷ asked ∷ []; right = replied ∷ [] }
-unfolding claim_of long_form long_reply_form parts form_of
+replied-is : claim_of (codes "requests replied") ≡ record { throughout = false; possible = false; left = took ∷ asked ∷ []; right = replied ∷ [] }
+unfolding claim_of behind_throughout cut long_form long_call_form parts form_of
 replied-is = refl
 
 module _ (lines : List (List (List ℕ))) (s x c n : List ℕ) where
@@ -297,8 +298,77 @@ module _ (lines : List (List (List ℕ))) where
 pub requests-replied : RequestsReplied
 requests-replied = said (codes "requests replied") (took ∷ asked ∷ []) (replied ∷ []) RepliesToRequests replied-is replied-to replied-from
 
+-- nothing late
+
+abbrev late-left : List Piece
+late-left = Word answer ∷ Any ∷ Any ∷ Word (codes "take") ∷ Any ∷ Any ∷ Word (codes "late") ∷ Any ∷ []
+
+late-is : claim_of (codes "nothing late") ≡ record { throughout = false; possible = false; left = late-left ∷ []; right = [] }
+unfolding claim_of behind_throughout cut long_form long_call_form parts form_of
+late-is = refl
+
+module _ (lines : List (List (List ℕ))) where
+  late-to : all-met lines (late-left ∷ []) [] ≡ true → IsLate lines → ⊥
+  late-to met late =
+      one-met lines [] late-left met
+      (record {
+        line = answer ∷ late.script ∷ late.number ∷ codes "take" ∷ late.port ∷ late.message ∷ codes "late" ∷ late.call ∷ [];
+        more = [];
+        told = late.told;
+        fit = (refl, (refl, (refl, refl)));
+      })
+
+  is-late : SoBy lines [] late-left → IsLate lines
+  is-late s =
+      let a = word-first answer (Any ∷ Any ∷ Word (codes "take") ∷ Any ∷ Any ∷ Word (codes "late") ∷ Any ∷ []) s.line [] s.more s.fit in
+      let b = any-first (Any ∷ Word (codes "take") ∷ Any ∷ Any ∷ Word (codes "late") ∷ Any ∷ []) a.rest [] s.more a.so in
+      let e = any-first (Word (codes "take") ∷ Any ∷ Any ∷ Word (codes "late") ∷ Any ∷ []) b.rest [] s.more b.so in
+      let f = word-first (codes "take") (Any ∷ Any ∷ Word (codes "late") ∷ Any ∷ []) e.rest [] s.more e.so in
+      let g = any-first (Any ∷ Word (codes "late") ∷ Any ∷ []) f.rest [] s.more f.so in
+      let h = any-first (Word (codes "late") ∷ Any ∷ []) g.rest [] s.more g.so in
+      let i = word-first (codes "late") (Any ∷ []) h.rest [] s.more h.so in
+      let j = any-first [] i.rest [] s.more i.so in
+      let end = h.is ∙ ap (λ vs. h.first ∷ vs) (i.is ∙ ap (λ vs. codes "late" ∷ vs) (j.is ∙ ap (λ vs. j.first ∷ vs) (nothing-left j.rest [] s.more j.so).0)) in
+      let line = a.is ∙ ap (λ vs. answer ∷ vs) (b.is ∙ ap (λ vs. b.first ∷ vs) (e.is ∙ ap (λ vs. e.first ∷ vs) (f.is ∙ ap (λ vs. codes "take" ∷ vs) (g.is ∙ ap (λ vs. g.first ∷ vs) end)))) in
+      record { script = b.first; number = e.first; port = g.first; message = h.first; call = j.first; told = subst (Contains lines) line s.told }
+
+  late-from : (IsLate lines → ⊥) → all-met lines (late-left ∷ []) [] ≡ true
+  late-from none = met-one lines [] late-left (λ s. none (is-late s))
+
+pub nothing-late : NothingLate
+nothing-late = said (codes "nothing late") (late-left ∷ []) [] (λ lines. IsLate lines → ⊥) late-is late-to late-from
+
+-- calls settled
+
+abbrev settled-left : List Piece
+settled-left = Word (codes "outstanding") ∷ Any ∷ Any ∷ []
+
+settled-is : claim_of (codes "calls settled") ≡ record { throughout = false; possible = false; left = settled-left ∷ []; right = [] }
+unfolding claim_of behind_throughout cut long_form long_call_form parts form_of
+settled-is = refl
+
+module _ (lines : List (List (List ℕ))) where
+  settled-to : all-met lines (settled-left ∷ []) [] ≡ true → IsOutstanding lines → ⊥
+  settled-to met call =
+      one-met lines [] settled-left met
+      (record { line = codes "outstanding" ∷ call.script ∷ call.number ∷ []; more = []; told = call.told; fit = (refl, refl) })
+
+  is-outstanding : SoBy lines [] settled-left → IsOutstanding lines
+  is-outstanding s =
+      let a = word-first (codes "outstanding") (Any ∷ Any ∷ []) s.line [] s.more s.fit in
+      let b = any-first (Any ∷ []) a.rest [] s.more a.so in
+      let e = any-first [] b.rest [] s.more b.so in
+      let line = a.is ∙ ap (λ vs. codes "outstanding" ∷ vs) (b.is ∙ ap (λ vs. b.first ∷ vs) (e.is ∙ ap (λ vs. e.first ∷ vs) (nothing-left e.rest [] s.more e.so).0)) in
+      record { script = b.first; number = e.first; told = subst (Contains lines) line s.told }
+
+  settled-from : (IsOutstanding lines → ⊥) → all-met lines (settled-left ∷ []) [] ≡ true
+  settled-from none = met-one lines [] settled-left (λ s. none (is-outstanding s))
+
+pub calls-settled : CallsSettled
+calls-settled = said (codes "calls settled") (settled-left ∷ []) [] (λ lines. IsOutstanding lines → ⊥) settled-is settled-to settled-from
+
 -- they are claims
 
 pub short-forms : ShortFormsAreClaims
-unfolding fault_of long_form long_reply_form parts form_of first_place is_post_act is_port_act is_group_act is_refusal
-short-forms sites commands = (refl, refl, refl, refl)
+unfolding fault_of behind_throughout cut long_form long_call_form parts form_of message_place port_place script_place is_post_act is_port_act is_group_act is_refusal
+short-forms sites commands = (refl, refl, refl, refl, refl, refl)

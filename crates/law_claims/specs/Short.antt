@@ -1,7 +1,9 @@
 -- What the short forms say of the lines of facts. The words of each line are given; x is a message, p and q are ports, n a number.
-use Rattle.std.specs.Prelude.{◌≡◌, ℕ, true, List, [], ◌∷◌, ◌++◌, ◌⊎◌, None, codes, Contains}
-use Rattle.chorus_claims.specs.Words.{words_in}
-use Rattle.chorus_claims.specs.Pieces.{meets}
+use Rattle.std.specs.Prelude.{◌≡◌, ℕ, Bool, true, false, List, [], ◌∷◌, ◌++◌, ◌⊎◌, None, codes, Contains}
+use Rattle.std.specs.List.{list_any}
+use Rattle.chorus_claims.specs.Words.{words, words_in, is_mark, is_throughout}
+use Rattle.chorus_claims.specs.Pieces.{Claim, meets}
+use Rattle.chorus_claims.specs.Places.{is_fact}
 use Rattle.chorus_claims.specs.Shapes.{claim_of, fault_of}
 
 -- the claim is met exactly where this is so of the lines
@@ -60,6 +62,22 @@ RepliesToRequests lines =
     Contains lines (codes "answer" ∷ client ∷ j ∷ codes "post" ∷ x ∷ dest ∷ q ∷ codes "request" ∷ n ∷ more) →
     IsReplied lines server client n
 
+-- a command took a reply that came late
+pub record IsLate (lines : List (List (List ℕ))) : Type 0 where
+  pub script : List ℕ
+  pub number : List ℕ
+  pub port : List ℕ
+  pub message : List ℕ
+  pub call : List ℕ
+  pub told : Contains lines
+      (codes "answer" ∷ script ∷ number ∷ codes "take" ∷ port ∷ message ∷ codes "late" ∷ call ∷ [])
+
+-- a call of a script is outstanding
+pub record IsOutstanding (lines : List (List (List ℕ))) : Type 0 where
+  pub script : List ℕ
+  pub number : List ℕ
+  pub told : Contains lines (codes "outstanding" ∷ script ∷ number ∷ [])
+
 abbrev pub NothingRefused : Type 0
 NothingRefused = Says (codes "nothing refused") RefusesNothing
 
@@ -72,9 +90,47 @@ NothingLeft = Says (codes "nothing left") LeavesNothing
 abbrev pub RequestsReplied : Type 0
 RequestsReplied = Says (codes "requests replied") RepliesToRequests
 
+abbrev pub NothingLate : Type 0
+NothingLate = Says (codes "nothing late") (λ lines. IsLate lines → ⊥)
+
+abbrev pub CallsSettled : Type 0
+CallsSettled = Says (codes "calls settled") (λ lines. IsOutstanding lines → ⊥)
+
 -- each short form is a claim of every scenario
 abbrev pub ShortFormsAreClaims : Type 0
 ShortFormsAreClaims =
     (sites : ℕ) (commands : List ℕ) →
     (fault_of sites commands (codes "nothing refused") ≡ None) × (fault_of sites commands (codes "nothing lost") ≡ None)
     × (fault_of sites commands (codes "nothing left") ≡ None) × (fault_of sites commands (codes "requests replied") ≡ None)
+    × (fault_of sites commands (codes "nothing late") ≡ None) × (fault_of sites commands (codes "calls settled") ≡ None)
+
+-- When a claim is asked.
+
+-- the texts with a space (32) between
+abbrev pub joined : List ℕ → List ℕ → List ℕ
+joined one other = one ++ (32 ∷ other)
+
+abbrev pub at_each_moment : Claim → Claim
+at_each_moment k = record k { throughout = true }
+
+-- behind `throughout` a claim is the same, asked at each moment
+abbrev pub ThroughoutAsksAtEachMoment : Type 0
+ThroughoutAsksAtEachMoment =
+    (text : List ℕ) → is_throughout text ≡ false →
+    claim_of (joined (codes "throughout") text) ≡ at_each_moment (claim_of text)
+
+-- the words are those of one fact: they begin as a fact does, and none is a mark
+abbrev pub begins_fact : List (List ℕ) → Bool
+begins_fact [] = false
+begins_fact (w ∷ ws) = is_fact w
+
+pub record IsOneFact (text : List ℕ) : Type 0 where
+  pub begins : begins_fact (words text) ≡ true
+  pub plain : list_any is_mark (words text) ≡ false
+
+-- one fact before another is what that long form says
+abbrev pub BeforeIsThroughout : Type 0
+BeforeIsThroughout =
+    (first second : List ℕ) → IsOneFact first → IsOneFact second →
+    claim_of (joined first (joined (codes "before") second))
+    ≡ claim_of (joined (codes "throughout") (joined second (joined (codes "=>") first)))

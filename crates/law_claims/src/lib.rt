@@ -8,4 +8,4 @@
 
 mod laws;
 
-pub use laws::{claims_are_short, short_forms_say_what_they_mean};
+pub use laws::{claims_are_short, short_forms_say_what_they_mean, throughout_asks_at_each_moment};

@@ -16,7 +16,7 @@ use Rattle.law_explore.specs.declared.moves.Move.{Move}
 use Rattle.law_explore.specs.declared.moves.Move.TheVariants.{Go}
 use Rattle.law_explore.specs.Alike.{CallerAlike}
 use Rattle.law_explore.specs.Search.{state_after}
-use Rattle.law_explore.specs.Races.{Race, start_of, next_moves, replaying, IsRace, IsWhole}
+use Rattle.law_explore.specs.Races.{Race, Told, start_of, next_moves, replaying, IsRace, IsWhole}
 use Rattle.law_explore.specs.Outcome.{Answered, is_stale_at, outcome_after}
 use Rattle.law_explore.specs.Positions.{TellAlike, ComeAlike}
 use Rattle.law_explore.specs.Levels.{Class, histories_of, level}
@@ -131,11 +131,14 @@ one-class = refl
 abbrev making : Race
 making = both (Command.Make first_actor 1)
 
-abbrev first_made : List (List Act) → ℕ
+abbrev made_number : Act → ℕ
+made_number (acts.Make q actor capacity) = q.number
+made_number act = 0
+
+abbrev first_made : List (List Told) → ℕ
 first_made [] = 0
 first_made ([] ∷ rest) = 0
-first_made ((acts.Make q actor capacity ∷ answers) ∷ rest) = q.number
-first_made ((act ∷ answers) ∷ rest) = 0
+first_made ((it ∷ answers) ∷ rest) = made_number it.act
 
 pub not-either : ComeAlike making (Go 1 ∷ Go 0 ∷ []) (Go 0 ∷ Go 1 ∷ []) → ⊥
 not-either h = let e : ◌≡◌ {A = ℕ} 2 1 = ap first_made h.told in omega (arith, e)

@@ -8,6 +8,7 @@ pub mod Searching
 pub mod Exploring
 pub mod Alike
 pub mod Nets
+pub mod Settling
 pub mod Telling
 pub mod Told
 pub mod Replays
@@ -17,6 +18,7 @@ pub mod Histories
 pub mod Once
 pub mod Levels
 pub mod Merging
+pub mod Moments
 pub mod Members
 pub mod Found
 pub mod Quiet

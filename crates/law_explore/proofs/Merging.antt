@@ -3,17 +3,16 @@
 use Rattle.std.proofs.Common.{ℕ, ◌≡◌, true, List, [], ◌∷◌, ◌++◌, length, slice_get, refl, sym, ◌∙◌, ap}
 use Rattle.std.specs.List.{filter}
 use Rattle.chorus_ui.specs.declared.layout.Layout.{Layout}
-use Rattle.chorus_entry.specs.declared.act.Act.{Act}
 use Rattle.chorus_entry.specs.declared.command.Command.{Command}
 use Rattle.law_explore.specs.Search.{state_after, IsHistory}
 use Rattle.law_explore.specs.declared.moves.Move.{Move}
-use Rattle.law_explore.specs.Races.{Race, Position, seat_0, may_come, replaying, all_moves, next_moves, IsRace}
-use Rattle.law_explore.specs.Positions.{TellAlike}
+use Rattle.law_explore.specs.Races.{Race, Position, Told, seat_0, may_come, replaying, all_moves, next_moves, IsRace}
+use Rattle.law_explore.specs.Positions.{AskAlike}
 use Rattle.law_explore.specs.Merging.{Telling, TellsOn, AreToldAlike, ComeToldAlike, ToldAlikeGoOn, ToldAlikeIsAnEquivalence, PlacesTellTheSame}
 use Rattle.law_explore.proofs.Carriers.{same-filter, same-Bool}
-use Rattle.law_explore.proofs.Telling.{keep_tells, outcomes}
+use Rattle.law_explore.proofs.Telling.{keep_asks, outcomes}
 use Rattle.law_explore.proofs.Replays.{Stay, follows}
-use Rattle.law_explore.proofs.Positions.{places-itself, places-turned, places-joined, caller-itself, caller-turned, caller-joined, as-many, there, not-scripted}
+use Rattle.law_explore.proofs.Positions.{asks-itself, asks-turned, asks-joined, places-itself, places-turned, places-joined, caller-itself, caller-turned, caller-joined, as-many, there, not-scripted}
 
 module _ (tells : Telling) where
   pub itself-told : (count : ℕ) (s : Position) → AreToldAlike tells count s s
@@ -22,7 +21,7 @@ module _ (tells : Telling) where
         nets =
             record {
               layout = refl;
-              places = places-itself s.net.places;
+              places = places-itself (AskAlike tells.asks) (asks-itself tells.asks) s.net.places;
               packets = refl;
               callers = λ k low high. caller-itself (slice_get s.net.callers k);
             };
@@ -36,7 +35,7 @@ module _ (tells : Telling) where
         nets =
             record {
               layout = sym h.nets.layout;
-              places = places-turned s.net.places t.net.places h.nets.places;
+              places = places-turned (AskAlike tells.asks) (asks-turned tells.asks) s.net.places t.net.places h.nets.places;
               packets = sym h.nets.packets;
               callers = λ k low high. caller-turned (slice_get s.net.callers k) (slice_get t.net.callers k) (h.nets.callers k low high);
             };
@@ -50,7 +49,7 @@ module _ (tells : Telling) where
         nets =
             record {
               layout = f.nets.layout ∙ h.nets.layout;
-              places = places-joined s.net.places t.net.places u.net.places h.nets.places f.nets.places;
+              places = places-joined (AskAlike tells.asks) (asks-joined tells.asks) s.net.places t.net.places u.net.places h.nets.places f.nets.places;
               packets = h.nets.packets ∙ f.nets.packets;
               callers = λ k low high. caller-joined (slice_get s.net.callers k) (slice_get t.net.callers k) (slice_get u.net.callers k) (h.nets.callers k low high) (f.nets.callers k low high);
             };
@@ -58,8 +57,8 @@ module _ (tells : Telling) where
         told = f.told ∙ h.told;
       }
 
-  abbrev Same : List (List Act) → List (List Act) → Type 0
-  Same told other = tells other ≡ tells told
+  abbrev Same : List (List Told) → List (List Told) → Type 0
+  Same told other = tells.texts other ≡ tells.texts told
 
   module _ (on : TellsOn tells) (r : Race) (race : IsRace r) where
     abbrev l : Layout
@@ -68,13 +67,13 @@ module _ (tells : Telling) where
     abbrev at : List Move → Position
     at ms = state_after (replaying r) ms
 
-    stay : (ms os : List Move) → IsHistory (replaying r) os → ComeToldAlike tells r ms os → Stay TellAlike Same (length r.scripts) seat_0 (at ms) (at os)
+    stay : (ms os : List Move) → IsHistory (replaying r) os → ComeToldAlike tells r ms os → Stay (AskAlike tells.asks) Same (length r.scripts) seat_0 (at ms) (at os)
     stay ms os h alike =
         record { nets = alike.nets; left = alike.left; told = alike.told; all = as-many r race ms; there = λ b. there r race os h }
 
     pub told-more : (ms os : List Move) (m : Move) → IsHistory (replaying r) os → ComeToldAlike tells r ms os → may_come l m (at ms) ≡ true → (may_come l m (at os) ≡ true) × ComeToldAlike tells r (m ∷ ms) (m ∷ os)
     told-more ms os m h alike may =
-        let next = follows TellAlike keep_tells Same on l (length r.scripts) seat_0 seat_0 (not-scripted r race) (at ms) (at os) (stay ms os h alike) m may in
+        let next = follows (AskAlike tells.asks) (keep_asks tells.asks) Same on l (length r.scripts) seat_0 seat_0 (not-scripted r race) (at ms) (at os) (stay ms os h alike) m may in
         (next.0, record { nets = next.1.nets; left = next.1.left; told = next.1.told })
 
     pub told-on : (ms os more : List Move) → IsHistory (replaying r) os → ComeToldAlike tells r ms os → IsHistory (replaying r) (more ++ ms)
@@ -106,4 +105,4 @@ told-alike-is-an-equivalence tells count =
     record { itself = itself-told tells count; turned = turned-told tells count; joined = joined-told tells count }
 
 pub places-tell-the-same : PlacesTellTheSame
-places-tell-the-same told ss rs h = outcomes TellAlike (λ j k x. x) told ss rs h
+places-tell-the-same asks told ss rs h = outcomes (AskAlike asks) (λ j k x. x.tells) told ss rs h

@@ -19,8 +19,7 @@ use Rattle.law_network.proofs.Links.LinkViews.{rest-order}
 use Rattle.law_network.proofs.Places.PlacesStay.{place-other}
 use Rattle.law_network.proofs.Standing.CallerList.{get-other}
 use Rattle.law_network.proofs.Standing.Turning.{number-is}
-use Rattle.law_machine.specs.Own.{own}
-use Rattle.law_explore.specs.Races.{own_by, own_of}
+use Rattle.law_explore.specs.Races.{own_by, own_of, told_in}
 use Rattle.law_explore.specs.Neighbours.{seat_of, command_place, place_of, has_packet, is_ready, AreNeighbours}
 use Rattle.law_explore.proofs.Packets.{IsFrom, put-all-swap, first-put-all, rest-put-all, first-rest, rest-rest}
 use Rattle.law_explore.proofs.Lists.{with-swap, set-swap}
@@ -185,7 +184,7 @@ module _ (n : NetState) (ps : List PlaceState) (us : List Outgoing) (cs : List S
         ap (λ x. own_of x (happened f (net_with n ps us cs))) is
         ∙ ap (own_of (Act (seat_of e) c)) (happens f n ps us cs v other any)
         ∙ ap (own_by c (behind f u n ps us cs)) still
-        ∙ ap (λ (s : PlaceState). Some (own c (begun s w))) (subst (λ (x : Event). place_in n.layout (stands_at n.layout w x) (with_place u.place ps) ≡ place_in n.layout (stands_at n.layout w x) ps) is same-place)
+        ∙ ap (λ (s : PlaceState). Some (told_in c (begun s w))) (subst (λ (x : Event). place_in n.layout (stands_at n.layout w x) (with_place u.place ps) ≡ place_in n.layout (stands_at n.layout w x) ps) is same-place)
         ∙ sym (ap (own_by c (net_with n ps us cs)) one)
         ∙ sym (ap (λ x. own_of x (net_with n ps us cs)) is)
 

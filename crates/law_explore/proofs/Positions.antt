@@ -1,6 +1,6 @@
 -- Positions that are alike: being so is an equivalence, and what comes behind the one comes behind the other.
 -- r is a race, s, t and u are positions, m is a move, ms, os and more are moves.
-use Rattle.std.proofs.Common.{ℕ, ◌≡◌, ◌<◌, ◌≤◌, true, List, [], ◌∷◌, ◌++◌, length, Option, Some, None, is_some, slice_get, refl, sym, ◌∙◌, ap, subst, arith}
+use Rattle.std.proofs.Common.{ℕ, ◌≡◌, ◌<◌, ◌≤◌, Bool, true, List, [], ◌∷◌, ◌++◌, length, Option, Some, None, is_some, slice_get, refl, sym, ◌∙◌, ap, subst, arith}
 use Rattle.std.specs.List.{filter}
 use Rattle.std.proofs.lemmas.Bool.{false≢true}
 use Rattle.chorus_ui.specs.declared.layout.Layout.{Layout}
@@ -13,7 +13,7 @@ use Rattle.law_explore.specs.Alike.{ReadAlike, CallerAlike, PlaceAlike, PlacesAl
 use Rattle.law_explore.specs.Search.{state_after, IsHistory}
 use Rattle.law_explore.specs.declared.moves.Move.{Move}
 use Rattle.law_explore.specs.Races.{Race, Position, event_of, position_after, is_ready_by, seat_0, may_come, replaying, all_moves, next_moves, IsRace}
-use Rattle.law_explore.specs.Positions.{TellAlike, PositionsAlike, ComeAlike}
+use Rattle.law_explore.specs.Positions.{TellAlike, OrderAlike, AskAlike, PositionsAlike, ComeAlike}
 use Rattle.law_explore.specs.Laws.{AlikePositionsComeToTheSame, AlikeIsAnEquivalence}
 use Rattle.law_explore.proofs.Carriers.{some-inside, same-filter, same-Bool}
 use Rattle.law_explore.proofs.Telling.{keep_tells, outcomes}
@@ -74,39 +74,63 @@ tells-joined j k i h f =
       made = h.made ∙ f.made;
     }
 
-pub places-itself : (ss : List PlaceState) → PlacesAlike TellAlike ss ss
-places-itself [] = tt
-places-itself (s ∷ ss) = (record { journal = s.journal; is = refl; journals = tells-itself s.journal }, places-itself ss)
+order-itself : (j : List Entry) → OrderAlike j j
+order-itself j = record { accepts = λ q. refl; sent = λ x. refl }
 
-place-turned : (s r : PlaceState) → PlaceAlike TellAlike s r → PlaceAlike TellAlike r s
-place-turned s r h =
-    record {
-      journal = s.journal;
-      is = ap (λ (x : PlaceState). let y : PlaceState = record x { journal = s.journal } in y) (sym h.is);
-      journals = subst (λ (x : PlaceState). TellAlike x.journal s.journal) (sym h.is) (tells-turned s.journal h.journal h.journals);
-    }
+order-turned : (j k : List Entry) → OrderAlike j k → OrderAlike k j
+order-turned j k h = record { accepts = λ q. sym (h.accepts q); sent = λ x. sym (h.sent x) }
 
-place-joined : (s r p : PlaceState) → PlaceAlike TellAlike s r → PlaceAlike TellAlike r p → PlaceAlike TellAlike s p
-place-joined s r p h f =
-    record {
-      journal = f.journal;
-      is = f.is ∙ ap (λ (x : PlaceState). let y : PlaceState = record x { journal = f.journal } in y) h.is;
-      journals = tells-joined s.journal h.journal f.journal h.journals (subst (λ (x : PlaceState). TellAlike x.journal f.journal) h.is f.journals);
-    }
+order-joined : (j k i : List Entry) → OrderAlike j k → OrderAlike k i → OrderAlike j i
+order-joined j k i h f = record { accepts = λ q. h.accepts q ∙ f.accepts q; sent = λ x. h.sent x ∙ f.sent x }
 
-pub places-turned : (ss rs : List PlaceState) → PlacesAlike TellAlike ss rs → PlacesAlike TellAlike rs ss
-places-turned [] [] h = tt
-places-turned [] (r ∷ rs) h = absurd h
-places-turned (s ∷ ss) [] h = absurd h
-places-turned (s ∷ ss) (r ∷ rs) h = (place-turned s r h.0, places-turned ss rs h.1)
+module _ (asks : Bool) where
+  pub asks-itself : (j : List Entry) → AskAlike asks j j
+  asks-itself j = record { tells = tells-itself j; order = λ a. order-itself j }
 
-pub places-joined : (ss rs ps : List PlaceState) → PlacesAlike TellAlike ss rs → PlacesAlike TellAlike rs ps → PlacesAlike TellAlike ss ps
-places-joined [] [] [] h f = tt
-places-joined [] [] (p ∷ ps) h f = absurd f
-places-joined [] (r ∷ rs) ps h f = absurd h
-places-joined (s ∷ ss) [] ps h f = absurd h
-places-joined (s ∷ ss) (r ∷ rs) [] h f = absurd f
-places-joined (s ∷ ss) (r ∷ rs) (p ∷ ps) h f = (place-joined s r p h.0 f.0, places-joined ss rs ps h.1 f.1)
+  pub asks-turned : (j k : List Entry) → AskAlike asks j k → AskAlike asks k j
+  asks-turned j k h = record { tells = tells-turned j k h.tells; order = λ a. order-turned j k (h.order a) }
+
+  pub asks-joined : (j k i : List Entry) → AskAlike asks j k → AskAlike asks k i → AskAlike asks j i
+  asks-joined j k i h f = record { tells = tells-joined j k i h.tells f.tells; order = λ a. order-joined j k i (h.order a) (f.order a) }
+
+-- so it is of places, where it is of journals
+
+module _ (J : List Entry → List Entry → Type 0) (itself-by : (j : List Entry) → J j j) where
+  pub places-itself : (ss : List PlaceState) → PlacesAlike J ss ss
+  places-itself [] = tt
+  places-itself (s ∷ ss) = (record { journal = s.journal; is = refl; journals = itself-by s.journal }, places-itself ss)
+
+module _ (J : List Entry → List Entry → Type 0) (turned-by : (j k : List Entry) → J j k → J k j) where
+  place-turned : (s r : PlaceState) → PlaceAlike J s r → PlaceAlike J r s
+  place-turned s r h =
+      record {
+        journal = s.journal;
+        is = ap (λ (x : PlaceState). let y : PlaceState = record x { journal = s.journal } in y) (sym h.is);
+        journals = subst (λ (x : PlaceState). J x.journal s.journal) (sym h.is) (turned-by s.journal h.journal h.journals);
+      }
+
+  pub places-turned : (ss rs : List PlaceState) → PlacesAlike J ss rs → PlacesAlike J rs ss
+  places-turned [] [] h = tt
+  places-turned [] (r ∷ rs) h = absurd h
+  places-turned (s ∷ ss) [] h = absurd h
+  places-turned (s ∷ ss) (r ∷ rs) h = (place-turned s r h.0, places-turned ss rs h.1)
+
+module _ (J : List Entry → List Entry → Type 0) (joined-by : (j k i : List Entry) → J j k → J k i → J j i) where
+  place-joined : (s r p : PlaceState) → PlaceAlike J s r → PlaceAlike J r p → PlaceAlike J s p
+  place-joined s r p h f =
+      record {
+        journal = f.journal;
+        is = f.is ∙ ap (λ (x : PlaceState). let y : PlaceState = record x { journal = f.journal } in y) h.is;
+        journals = joined-by s.journal h.journal f.journal h.journals (subst (λ (x : PlaceState). J x.journal f.journal) h.is f.journals);
+      }
+
+  pub places-joined : (ss rs ps : List PlaceState) → PlacesAlike J ss rs → PlacesAlike J rs ps → PlacesAlike J ss ps
+  places-joined [] [] [] h f = tt
+  places-joined [] [] (p ∷ ps) h f = absurd f
+  places-joined [] (r ∷ rs) ps h f = absurd h
+  places-joined (s ∷ ss) [] ps h f = absurd h
+  places-joined (s ∷ ss) (r ∷ rs) [] h f = absurd f
+  places-joined (s ∷ ss) (r ∷ rs) (p ∷ ps) h f = (place-joined s r p h.0 f.0, places-joined ss rs ps h.1 f.1)
 
 pub caller-itself : (o : Option Seated) → CallerAlike o o
 caller-itself None = tt
@@ -134,7 +158,7 @@ itself count s =
       nets =
           record {
             layout = refl;
-            places = places-itself s.net.places;
+            places = places-itself TellAlike tells-itself s.net.places;
             packets = refl;
             callers = λ k low high. caller-itself (slice_get s.net.callers k);
           };
@@ -148,7 +172,7 @@ turned count s t h =
       nets =
           record {
             layout = sym h.nets.layout;
-            places = places-turned s.net.places t.net.places h.nets.places;
+            places = places-turned TellAlike tells-turned s.net.places t.net.places h.nets.places;
             packets = sym h.nets.packets;
             callers = λ k low high. caller-turned (slice_get s.net.callers k) (slice_get t.net.callers k) (h.nets.callers k low high);
           };
@@ -162,7 +186,7 @@ joined count s t u h f =
       nets =
           record {
             layout = f.nets.layout ∙ h.nets.layout;
-            places = places-joined s.net.places t.net.places u.net.places h.nets.places f.nets.places;
+            places = places-joined TellAlike tells-joined s.net.places t.net.places u.net.places h.nets.places f.nets.places;
             packets = h.nets.packets ∙ f.nets.packets;
             callers = λ k low high. caller-joined (slice_get s.net.callers k) (slice_get t.net.callers k) (slice_get u.net.callers k) (h.nets.callers k low high) (f.nets.callers k low high);
           };

@@ -5,7 +5,6 @@ use Rattle.std.specs.Option.{option_map}
 use Rattle.std.proofs.lemmas.Bool.{false≢true, and_parts, and_from, eqb-false, cases_Bool}
 use Rattle.std.proofs.lemmas.List.Elements.{All-head, All-tail}
 use Rattle.chorus_ui.specs.declared.layout.Layout.{Layout}
-use Rattle.chorus_entry.specs.declared.act.Act as acts
 use Rattle.chorus_entry.specs.declared.command.Command.{Command}
 use Rattle.chorus_entry.specs.declared.packet.Packet.{Packet}
 use Rattle.chorus_calls.specs.Callers.{Seated}
@@ -21,7 +20,7 @@ use Rattle.law_explore.specs.Neighbours.{seat_of, command_place, place_of, are_a
 use Rattle.law_explore.specs.Search.{Commutes}
 use Rattle.law_explore.specs.declared.moves.Move.{Move}
 use Rattle.law_explore.specs.declared.moves.Move.TheVariants.{Go, Carry}
-use Rattle.law_explore.specs.Races.{Race, Position, next_of, behind_next, are_linked, event_of, scripts_after, position_after, is_ready_by, are_apart_by, are_neighbours, is_less, own_of, with_answer, answers_after, racing}
+use Rattle.law_explore.specs.Races.{Race, Position, Told, next_of, behind_next, are_linked, event_of, scripts_after, position_after, is_ready_by, are_apart_by, are_neighbours, is_less, own_of, with_answer, answers_after, racing}
 use Rattle.law_explore.specs.Laws.{RacesNeedNormalsOnly}
 use Rattle.law_explore.proofs.Packets.{IsFrom, order-all}
 use Rattle.law_explore.proofs.Lists.{list-swap, list-other}
@@ -251,7 +250,7 @@ module _ (l : Layout) (who : ℕ → ℕ) where
   scripts_after-swap (Go i) (Carry c d) left ne = refl
   scripts_after-swap (Carry a b) o left ne = refl
 
-  told-swap : (m o : Move) (a b : Option acts.Act) (told : List (List acts.Act)) → (seat_by who m == seat_by who o) ≡ false → answers_after m a (answers_after o b told) ≡ answers_after o b (answers_after m a told)
+  told-swap : (m o : Move) (a b : Option Told) (told : List (List Told)) → (seat_by who m == seat_by who o) ≡ false → answers_after m a (answers_after o b told) ≡ answers_after o b (answers_after m a told)
   told-swap (Go i) (Go j) a b told ne =
       let apart : i ≢ j = λ e. eqb-false (suc i) (suc j) ne (ap suc e) in
       let x = with_answer a (slice_get told i) in
@@ -291,7 +290,7 @@ module _ (l : Layout) (who : ℕ → ℕ) where
       let told = answers_after o (own_of b.f s.net) s.told in
       ap (step m) (stepped o s b.f b.other)
       ∙ stepped m (record { net = happened b.f s.net; left = scripts_after o s.left; told = told }) b.e (next-past m o s.left apart ∙ b.one)
-      ∙ ap (λ (x : Option acts.Act). let p : Position = record { net = happened b.e (happened b.f s.net); left = scripts_after m (scripts_after o s.left); told = answers_after m x told } in p) (own-stays s.net b.e b.f order b.next)
+      ∙ ap (λ (x : Option Told). let p : Position = record { net = happened b.e (happened b.f s.net); left = scripts_after m (scripts_after o s.left); told = answers_after m x told } in p) (own-stays s.net b.e b.f order b.next)
 
   swap-moves : (m o : Move) (s : Position) → Ordered s → are_neighbours l who m o s ≡ true → step m (step o s) ≡ step o (step m s)
   swap-moves m o s order h =
@@ -303,7 +302,7 @@ module _ (l : Layout) (who : ℕ → ℕ) where
       two-steps m o s b order
       ∙ ap (λ (n : NetState). let p : Position = record { net = n; left = scripts_after m (scripts_after o s.left); told = answers_after m x (answers_after o z s.told) } in p) (commute s.net b.e b.f order b.next)
       ∙ ap (λ (ls : List (List Command)). let p : Position = record { net = happened b.f (happened b.e s.net); left = ls; told = answers_after m x (answers_after o z s.told) } in p) (scripts_after-swap m o s.left apart)
-      ∙ ap (λ (ls : List (List acts.Act)). let p : Position = record { net = happened b.f (happened b.e s.net); left = scripts_after o (scripts_after m s.left); told = ls } in p) (told-swap m o x z s.told apart)
+      ∙ ap (λ (ls : List (List Told)). let p : Position = record { net = happened b.f (happened b.e s.net); left = scripts_after o (scripts_after m s.left); told = ls } in p) (told-swap m o x z s.told apart)
       ∙ sym (two-steps o m s back order)
 
   still-moves : (m o : Move) (s : Position) → Ordered s → are_neighbours l who m o s ≡ true → is_ready_by (event_of l who m (step o s).left) (step o s).net ≡ true

@@ -3,7 +3,6 @@ use Rattle.std.proofs.Common.{ℕ, zero, suc, ◌≡◌, ◌≤◌, ◌==◌, Bo
 use Rattle.std.specs.Option.{option_map}
 use Rattle.std.proofs.lemmas.Bool.{false≢true, and_parts, and_from, cases_Bool, eqb-false}
 use Rattle.chorus_ui.specs.declared.layout.Layout.{Layout}
-use Rattle.chorus_entry.specs.declared.act.Act as acts
 use Rattle.chorus_entry.specs.declared.command.Command.{Command}
 use Rattle.chorus_entry.specs.declared.entry.Entry.{Entry}
 use Rattle.chorus_calls.specs.Callers.{Seated}
@@ -15,10 +14,11 @@ use Rattle.law_explore.specs.Neighbours.{seat_of, is_ready}
 use Rattle.law_explore.specs.Search.{state_after, IsHistory}
 use Rattle.law_explore.specs.declared.moves.Move.{Move}
 use Rattle.law_explore.specs.declared.moves.Move.TheVariants.{Go, Carry}
-use Rattle.law_explore.specs.Races.{Race, Position, next_of, are_linked, event_of, scripts_after, own_by, own_of, answers_after, position_after, is_ready_by, racing}
+use Rattle.law_explore.specs.Races.{Race, Position, Told, next_of, are_linked, event_of, scripts_after, own_by, own_of, answers_after, position_after, is_ready_by, racing}
 use Rattle.law_explore.specs.Outcome.{outcome_with}
 use Rattle.law_explore.specs.Laws.{RacesAlike, MovesComeToTheSame}
-use Rattle.law_explore.proofs.Alike.{Keeping, keep_acts, owns-alike}
+use Rattle.law_explore.proofs.Alike.{Keeping, keep_acts}
+use Rattle.law_explore.proofs.Settling.{told-alike}
 use Rattle.law_explore.proofs.Nets.{nets-stay-alike, begins, some-too}
 use Rattle.law_explore.proofs.Races.{caller, turn, is}
 use Rattle.law_explore.proofs.Telling.{acts-tell, outcomes}
@@ -55,7 +55,7 @@ short (cs ∷ left) zero c h = omega arith
 short (cs ∷ left) (suc i) c h = let le = short left i c h in omega (arith, le)
 
 -- Positions that stay alike, by a relation of journals and one of the acts that answered.
-module _ (J : List Entry → List Entry → Type 0) (T : List (List acts.Act) → List (List acts.Act) → Type 0) where
+module _ (J : List Entry → List Entry → Type 0) (T : List (List Told) → List (List Told) → Type 0) where
   pub record Stay (count : ℕ) (other : ℕ → ℕ) (s t : Position) : Type 0 where
     pub nets : NetsAlike J count s.net t.net
     pub left : t.left ≡ s.left
@@ -63,10 +63,10 @@ module _ (J : List Entry → List Entry → Type 0) (T : List (List acts.Act) �
     pub all : length s.left ≡ count
     pub there : (b : ℕ) → is_some (slice_get t.net.callers (other b)) ≡ true
 
-abbrev pub Grows : (List (List acts.Act) → List (List acts.Act) → Type 0) → Type 0
-Grows T = (m : Move) (a : Option acts.Act) (x z : List (List acts.Act)) → T x z → T (answers_after m a x) (answers_after m a z)
+abbrev pub Grows : (List (List Told) → List (List Told) → Type 0) → Type 0
+Grows T = (m : Move) (a : Option Told) (x z : List (List Told)) → T x z → T (answers_after m a x) (answers_after m a z)
 
-module _ (J : List Entry → List Entry → Type 0) (keep : Keeping J) (T : List (List acts.Act) → List (List acts.Act) → Type 0) (grow : Grows T)
+module _ (J : List Entry → List Entry → Type 0) (keep : Keeping J) (T : List (List Told) → List (List Told) → Type 0) (grow : Grows T)
     (l : Layout) (count : ℕ) (one other : ℕ → ℕ) (behind : (b k : ℕ) → 1 ≤ k → k ≤ count → (one b ≡ k → ⊥) × (other b ≡ k → ⊥)) where
   -- may come in the second too, and they stay alike
   abbrev Follows : Move → Position → Position → Type 0
@@ -113,7 +113,7 @@ module _ (J : List Entry → List Entry → Type 0) (keep : Keeping J) (T : List
             owned c low high None (Some v) a = absurd a
             owned c low high (Some w) None a = absurd a
             owned c low high (Some w) (Some v) a =
-                ap (λ (x : acts.Act). Some x) (owns-alike J keep c _ _ (begins J keep count s.net t.net h.nets (suc i) c low high w v a))
+                ap (λ (x : Told). Some x) (told-alike J keep c _ _ (begins J keep count s.net t.net h.nets (suc i) c low high w v a))
     follows (Carry a b) ready = by (are_linked l a b) refl ready
       where
         by : (x : Bool) → are_linked l a b ≡ x → is_ready_by (cond x (Some (Deliver (one b) a b)) None) s.net ≡ true → Follows (Carry a b) s t
@@ -126,7 +126,7 @@ module _ (J : List Entry → List Entry → Type 0) (keep : Keeping J) (T : List
             (inr (one b, (other b, (a, (b, (refl, refl, parts.0, h.there b, behind b))))))
             refl
 
-abbrev pub SameTold : List (List acts.Act) → List (List acts.Act) → Type 0
+abbrev pub SameTold : List (List Told) → List (List Told) → Type 0
 SameTold told other = other ≡ told
 
 pub grow-same : Grows SameTold
@@ -162,6 +162,6 @@ pub moves_come_to_the_same : MovesComeToTheSame
 moves_come_to_the_same r q one other ms alike history =
     let all = alike-after r q one other alike ms history in (
       all.0,
-      ap (λ (told : List (List acts.Act)). outcome_with told (state_after (racing q other) ms).net.places) all.1.told
+      ap (λ (told : List (List Told)). outcome_with told (state_after (racing q other) ms).net.places) all.1.told
           ∙ sym (outcomes ActAlike acts-tell (state_after (racing r one) ms).told (state_after (racing r one) ms).net.places (state_after (racing q other) ms).net.places all.1.nets.places),
     )

@@ -10,9 +10,9 @@ use Rattle.chorus_entry.specs.declared.id.MsgId.{MsgId}
 use Rattle.law_machine.specs.PlaceState.{PlaceState}
 use Rattle.law_explore.specs.declared.moves.Move.{Move}
 use Rattle.law_explore.specs.declared.moves.Move.TheVariants.{Go, Carry}
-use Rattle.law_explore.specs.Races.{with_answer, answers_after}
-use Rattle.law_explore.specs.Outcome.{plain_act, answers_from, answer_facts, Answered, post_in, posts_in, copies_in, facts_about, port_facts, outcome_with}
-use Rattle.law_explore.specs.Positions.{plain_told}
+use Rattle.law_explore.specs.Races.{Told, with_answer, answers_after}
+use Rattle.law_explore.specs.Outcome.{plain_act, answers_from, answer_facts, Answered, post_in, posted, posts_in, copies_in, facts_about, port_facts, outcome_with}
+use Rattle.law_explore.specs.Positions.{plain_it, plain_told}
 
 -- Lists.
 
@@ -26,26 +26,26 @@ map-reverse f (x ∷ xs) =
 
 -- One answer more.
 
-abbrev plain : List Act → List Act
-plain told = map plain_act told
+abbrev plain : List Told → List Told
+plain told = map plain_it told
 
-answer-plain : (a : Option Act) (o : Option (List Act)) → plain (with_answer a o) ≡ with_answer (option_map plain_act a) (option_map plain o)
+answer-plain : (a : Option Told) (o : Option (List Told)) → plain (with_answer a o) ≡ with_answer (option_map plain_it a) (option_map plain o)
 answer-plain None None = refl
 answer-plain None (Some told) = refl
 answer-plain (Some a) None = refl
 answer-plain (Some a) (Some told) = refl
 
-pub after-plain : (m : Move) (a : Option Act) (told : List (List Act)) → plain_told (answers_after m a told) ≡ answers_after m (option_map plain_act a) (plain_told told)
+pub after-plain : (m : Move) (a : Option Told) (told : List (List Told)) → plain_told (answers_after m a told) ≡ answers_after m (option_map plain_it a) (plain_told told)
 after-plain (Go i) a told =
     map-set plain told i (with_answer a (slice_get told i))
-    ∙ ap (slice_set (plain_told told) i) (answer-plain a (slice_get told i) ∙ ap (with_answer (option_map plain_act a)) (sym (slice_get-map plain told i)))
+    ∙ ap (slice_set (plain_told told) i) (answer-plain a (slice_get told i) ∙ ap (with_answer (option_map plain_it a)) (sym (slice_get-map plain told i)))
 after-plain (Carry x z) a told = refl
 
-abbrev pub SamePlain : List (List Act) → List (List Act) → Type 0
+abbrev pub SamePlain : List (List Told) → List (List Told) → Type 0
 SamePlain told other = plain_told other ≡ plain_told told
 
-pub grow-plain : (m : Move) (a : Option Act) (told other : List (List Act)) → SamePlain told other → SamePlain (answers_after m a told) (answers_after m a other)
-grow-plain m a told other h = after-plain m a other ∙ ap (answers_after m (option_map plain_act a)) h ∙ sym (after-plain m a told)
+pub grow-plain : (m : Move) (a : Option Told) (told other : List (List Told)) → SamePlain told other → SamePlain (answers_after m a told) (answers_after m a other)
+grow-plain m a told other h = after-plain m a other ∙ ap (answers_after m (option_map plain_it a)) h ∙ sym (after-plain m a told)
 
 -- The same facts come of them.
 
@@ -59,31 +59,31 @@ plain-post (acts.Take q position x) = refl
 plain-post (acts.Depart q to actor hop) = refl
 plain-post a = refl
 
-answers-plain : (k i : ℕ) (told : List Act) → answers_from k i (plain told) ≡ answers_from k i told
+answers-plain : (k i : ℕ) (told : List Told) → answers_from k i (plain told) ≡ answers_from k i told
 answers-plain k i [] = refl
-answers-plain k i (a ∷ told) = λ j. Answered k i (plain-twice a j) ∷ answers-plain k (i + 1) told j
+answers-plain k i (a ∷ told) = λ j. Answered k i (plain-twice a.act j) ∷ answers-plain k (i + 1) told j
 
-scripts-plain : (k : ℕ) (told : List (List Act)) → answer_facts k (plain_told told) ≡ answer_facts k told
+scripts-plain : (k : ℕ) (told : List (List Told)) → answer_facts k (plain_told told) ≡ answer_facts k told
 scripts-plain k [] = refl
 scripts-plain k (told ∷ rest) =
-    (λ j. answers_from k 1 (sym (map-reverse plain_act told) j) ++ scripts-plain (k + 1) rest j)
+    (λ j. answers_from k 1 (sym (map-reverse plain_it told) j) ++ scripts-plain (k + 1) rest j)
     ∙ ap (λ facts. facts ++ answer_facts (k + 1) rest) (answers-plain k 1 (reverse told))
 
-posted-plain : (told : List Act) → filter_map post_in (plain told) ≡ filter_map post_in told
+posted-plain : (told : List Told) → filter_map posted (plain told) ≡ filter_map posted told
 posted-plain [] = refl
-posted-plain (a ∷ told) = λ j. cons_option (plain-post a j) (posted-plain told j)
+posted-plain (a ∷ told) = λ j. cons_option (plain-post a.act j) (posted-plain told j)
 
-posts-plain : (told : List (List Act)) → posts_in (plain_told told) ≡ posts_in told
+posts-plain : (told : List (List Told)) → posts_in (plain_told told) ≡ posts_in told
 posts-plain [] = refl
 posts-plain (told ∷ rest) =
-    (λ j. filter_map post_in (sym (map-reverse plain_act told) j) ++ posts-plain rest j)
+    (λ j. filter_map posted (sym (map-reverse plain_it told) j) ++ posts-plain rest j)
     ∙ ap (λ ids. ids ++ posts_in rest) (posted-plain (reverse told))
 
-outcome-plain : (told : List (List Act)) (ps : List PlaceState) → outcome_with (plain_told told) ps ≡ outcome_with told ps
+outcome-plain : (told : List (List Told)) (ps : List PlaceState) → outcome_with (plain_told told) ps ≡ outcome_with told ps
 outcome-plain told ps =
     λ j. scripts-plain 1 told j
     ++ flat_map (facts_about ps) (flat_map (λ (x : MsgId). x ∷ copies_in x ps) (posts-plain told j))
     ++ port_facts ps
 
-pub outcome-same : (told other : List (List Act)) (ps : List PlaceState) → SamePlain told other → outcome_with told ps ≡ outcome_with other ps
+pub outcome-same : (told other : List (List Told)) (ps : List PlaceState) → SamePlain told other → outcome_with told ps ≡ outcome_with other ps
 outcome-same told other ps h = sym (outcome-plain told ps) ∙ ap (λ t. outcome_with t ps) (sym h) ∙ outcome-plain other ps

@@ -4,6 +4,7 @@ pub mod Search
 pub mod Walk
 pub mod Races
 pub mod Outcome
+pub mod Moment
 pub mod Positions
 pub mod Explores
 pub mod Replays

@@ -1,34 +1,37 @@
 -- Positions behind which the same may come, where what commands were answered may be told in any form, as a text.
--- r is a race, s and t are positions, told and other are the acts that answered, ms, os and more are moves, the latest
--- first, ss and rs are places.
-use Rattle.std.specs.Prelude.{ℕ, ◌≡◌, List, ◌++◌, length, Option}
-use Rattle.chorus_entry.specs.declared.act.Act.{Act}
+-- r is a race, s and t are positions, told and other are what answered, ms, os and more are moves, the latest first, ss
+-- and rs are places, n and m are networks.
+use Rattle.std.specs.Prelude.{ℕ, ◌≡◌, Bool, true, List, ◌++◌, length, Option}
+use Rattle.chorus_entry.specs.declared.command.Command.{Command}
 use Rattle.chorus_entry.specs.declared.id.MsgId.{MsgId}
 use Rattle.law_machine.specs.PlaceState.{PlaceState}
+use Rattle.law_network.specs.Network.{NetState}
 use Rattle.law_explore.specs.Alike.{NetsAlike, PlacesAlike}
 use Rattle.law_explore.specs.Search.{IsHistory, state_after}
 use Rattle.law_explore.specs.declared.moves.Move.{Move}
-use Rattle.law_explore.specs.Races.{Race, Position, answers_after, replaying, IsRace}
+use Rattle.law_explore.specs.Races.{Race, Position, Told, answers_after, replaying, IsRace}
 use Rattle.law_explore.specs.Outcome.{outcome_with}
-use Rattle.law_explore.specs.Positions.{TellAlike, next_behind}
+use Rattle.law_explore.specs.Moment.{moment_with}
+use Rattle.law_explore.specs.Positions.{AskAlike, next_behind}
 use Rattle.law_explore.specs.Laws.{IsEquivalence}
 
--- what is told of the acts that answered, script by script: a text, and ids
-abbrev pub Telling : Type 0
-Telling = List (List Act) → List (List ℕ × List MsgId)
+-- whether claims are asked, and what is told of what answered, script by script: a text, and ids
+pub record Telling : Type 0 where
+  pub asks : Bool
+  pub texts : List (List Told) → List (List ℕ × List MsgId)
 
 module _ (tells : Telling) where
   -- where the same is told, it is told again with one answer more
   abbrev pub TellsOn : Type 0
   TellsOn =
-      (m : Move) (a : Option Act) (told other : List (List Act)) → tells other ≡ tells told →
-      tells (answers_after m a other) ≡ tells (answers_after m a told)
+      (m : Move) (a : Option Told) (told other : List (List Told)) → tells.texts other ≡ tells.texts told →
+      tells.texts (answers_after m a other) ≡ tells.texts (answers_after m a told)
 
   -- The networks are alike, the same is left of each script, and the same is told of what was done of it.
   pub record AreToldAlike (count : ℕ) (s t : Position) : Type 0 where
-    pub nets : NetsAlike TellAlike count s.net t.net
+    pub nets : NetsAlike (AskAlike tells.asks) count s.net t.net
     pub left : t.left ≡ s.left
-    pub told : tells t.told ≡ tells s.told
+    pub told : tells.texts t.told ≡ tells.texts s.told
 
   -- two histories of a race that come to such
   abbrev pub ComeToldAlike : Race → List Move → List Move → Type 0
@@ -50,8 +53,14 @@ ToldAlikeGoOn =
 abbrev pub ToldAlikeIsAnEquivalence : Type 0
 ToldAlikeIsAnEquivalence = (tells : Telling) (count : ℕ) → IsEquivalence (AreToldAlike tells count)
 
--- places that are alike tell the same outcome, whatever acts answered
+-- places that are alike tell the same outcome, whatever answered
 abbrev pub PlacesTellTheSame : Type 0
 PlacesTellTheSame =
-    (told : List (List Act)) (ss rs : List PlaceState) → PlacesAlike TellAlike ss rs →
+    (asks : Bool) (told : List (List Told)) (ss rs : List PlaceState) → PlacesAlike (AskAlike asks) ss rs →
     outcome_with told ss ≡ outcome_with told rs
+
+-- and where claims are asked networks that are alike tell the same of a moment
+abbrev pub NetsTellTheSame : Type 0
+NetsTellTheSame =
+    (scripts left : List (List Command)) (told : List (List Told)) (n m : NetState) →
+    NetsAlike (AskAlike true) (length scripts) n m → moment_with scripts left told n ≡ moment_with scripts left told m

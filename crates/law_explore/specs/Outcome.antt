@@ -20,9 +20,9 @@ use Rattle.chorus_ports.specs.Table as table
 use Rattle.law_machine.specs.PlaceState.{PlaceState}
 use Rattle.law_explore.specs.Search.{state_after}
 use Rattle.law_explore.specs.declared.moves.Move.{Move}
-use Rattle.law_explore.specs.Races.{Race, Position, replaying}
+use Rattle.law_explore.specs.Races.{Race, Position, Told, replaying}
 
--- One thing that is so at the end.
+-- One thing that is so at the end, or at a moment.
 pub data Fact : Type 0 where
   -- the command of this number of a script is answered by this act
   Answered : (script number : ℕ) (act : acts.Act) → Fact
@@ -33,6 +33,24 @@ pub data Fact : Type 0 where
   Stale : (message : MsgId) → Fact
   -- the port is held by this actor, and these messages wait in it
   Held : (port actor : Ui) (waiting : List MsgId) → Fact
+  -- Of a moment alone: the command is answered by this act, and it took a reply, which did this to the script's call
+  Settled : (script number : ℕ) (act settles : acts.Act) → Fact
+  -- the message was posted and is not settled
+  Open : (message : MsgId) → Fact
+  -- the copy goes to this member
+  Copied : (message : MsgId) (port : Ui) → Fact
+  -- the port has accepted these messages, in this order
+  Accepted : (port : Ui) (messages : List MsgId) → Fact
+  -- the port is on its way to this actor
+  Moving : (port actor : Ui) → Fact
+  -- the group has these members, in their order
+  Members : (group : Ui) (ports : List Ui) → Fact
+  -- the script's call of this number is outstanding
+  Calls : (script number : ℕ) → Fact
+  -- the script holds this request of that client, and did not reply
+  Holds : (script client number : ℕ) → Fact
+  -- the script's next command
+  Next : (script number : ℕ) → Fact
 
 -- of each script and each command how it was answered; of each message that these posted, and of its copies, the
 -- verdict, and that it was told `stale` where it was; and each port that is held, in the order in which each place made them
@@ -52,12 +70,12 @@ plain_answer answer = answer
 
 -- Answers.
 
-abbrev pub answers_from : ℕ → ℕ → List acts.Act → List Fact
+abbrev pub answers_from : ℕ → ℕ → List Told → List Fact
 answers_from k i [] = []
-answers_from k i (act ∷ told) = Answered k i (plain_act act) ∷ answers_from k (i + 1) told
+answers_from k i (it ∷ told) = Answered k i (plain_act it.act) ∷ answers_from k (i + 1) told
 
--- of each script from script k on; each list has the latest act first
-abbrev pub answer_facts : ℕ → List (List acts.Act) → List Fact
+-- of each script from script k on; each list has the latest first
+abbrev pub answer_facts : ℕ → List (List Told) → List Fact
 answer_facts k [] = []
 answer_facts k (told ∷ rest) = answers_from k 1 (reverse told) ++ answer_facts (k + 1) rest
 
@@ -67,8 +85,11 @@ abbrev pub post_in : acts.Act → Option MsgId
 post_in (variants.Post m d) = Some m.id
 post_in act = None
 
-abbrev pub posts_in : List (List acts.Act) → List MsgId
-posts_in told = flat_map (λ (xs : List acts.Act). filter_map post_in (reverse xs)) told
+abbrev pub posted : Told → Option MsgId
+posted it = post_in it.act
+
+abbrev pub posts_in : List (List Told) → List MsgId
+posts_in told = flat_map (λ (xs : List Told). filter_map posted (reverse xs)) told
 
 -- what a message came to, as the places tell; one place alone decides on it
 abbrev pub verdict_in : MsgId → List PlaceState → Option Answer
@@ -101,7 +122,7 @@ stale_facts x is_stale = if is_stale then Stale x ∷ [] else []
 abbrev pub facts_about : List PlaceState → MsgId → List Fact
 facts_about ps x = verdict_fact ps x ∷ stale_facts x (is_stale_in x ps)
 
-abbrev pub message_facts : List (List acts.Act) → List PlaceState → List Fact
+abbrev pub message_facts : List (List Told) → List PlaceState → List Fact
 message_facts told ps = flat_map (facts_about ps) (flat_map (λ (x : MsgId). x ∷ copies_in x ps) (posts_in told))
 
 -- Ports: those that a place made, and those that are held anywhere.
@@ -129,7 +150,7 @@ abbrev pub port_facts : List PlaceState → List Fact
 port_facts ps = filter_map (λ (q : Ui). option_map port_fact (held_in q ps)) (made_at ps)
 
 -- It looks at tables and acts alone, at no clock and no merge.
-abbrev pub outcome_with : List (List acts.Act) → List PlaceState → Outcome
+abbrev pub outcome_with : List (List Told) → List PlaceState → Outcome
 outcome_with told ps = answer_facts 1 told ++ message_facts told ps ++ port_facts ps
 
 abbrev pub outcome_of : Position → Outcome

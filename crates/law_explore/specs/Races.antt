@@ -7,9 +7,17 @@ use Rattle.std.specs.Option.{option_map}
 use Rattle.chorus_ui.specs.declared.layout.Layout.{Layout}
 use Rattle.chorus_ui.specs.Layout.{has_place}
 use Rattle.chorus_entry.specs.declared.act.Act as acts
+use Rattle.chorus_entry.specs.declared.act.Act.TheVariants as variants
 use Rattle.chorus_entry.specs.declared.command.Command.{Command}
+use Rattle.chorus_entry.specs.declared.message.Message.{Message}
+use Rattle.chorus_entry.specs.declared.tag.Tag.{Tag}
+use Rattle.chorus_entry.specs.declared.tag.Tag.TheVariants.{Reply}
 use Rattle.chorus_calls.specs.Callers.{Seated}
+use Rattle.chorus_calls.specs.Clients.{is_outstanding}
+use Rattle.chorus_ports.specs.Table.{find}
+use Rattle.law_machine.specs.Doing.{first_message}
 use Rattle.law_machine.specs.Own.{own}
+use Rattle.law_machine.specs.PlaceState.{Turn}
 use Rattle.law_network.specs.Packets.{AreByLink}
 use Rattle.law_network.specs.Network.{NetState, Event, Enter, Act, Deliver, See, happened, numbers, place_numbers, turn_for}
 use Rattle.law_network.specs.Stands.{actor_of}
@@ -23,12 +31,16 @@ pub record Race : Type 0 where
   pub net : NetState
   pub scripts : List (List Command)
 
--- what is reached: the network; what is left of each script; and the acts by which its commands were answered, the
--- latest first
+-- what answered a command: its own act, and of a reply that was taken, whether it ended the caller's outstanding call
+pub record Told : Type 0 where
+  pub act : acts.Act
+  pub settles : Option acts.Act
+
+-- what is reached: the network; what is left of each script; and what answered its commands, the latest first
 pub record Position : Type 0 where
   pub net : NetState
   pub left : List (List Command)
-  pub told : List (List acts.Act)
+  pub told : List (List Told)
 
 abbrev pub next_of : Option (List Command) → Option Command
 next_of None = None
@@ -53,22 +65,40 @@ abbrev pub scripts_after : Move → List (List Command) → List (List Command)
 scripts_after (Go i) left = slice_set left i (behind_next (slice_get left i))
 scripts_after (Carry a b) left = left
 
--- the act that answers the command of the event
-abbrev pub own_by : Command → NetState → Option Seated → Option acts.Act
-own_by c n None = None
-own_by c n (Some w) = Some (own c (turn_for c w n))
+-- a reply that is taken ends the outstanding call that it answers, or else it is late
+abbrev pub settles_by : Tag → Seated → Option acts.Act
+settles_by (Reply client number) w =
+    Some (if (client == w.seat) && is_outstanding number w.client then variants.Done number else variants.Late number)
+settles_by _ w = None
 
-abbrev pub own_of : Event → NetState → Option acts.Act
+abbrev pub settles_with : Option Message → Seated → Option acts.Act
+settles_with None w = None
+settles_with (Some m) w = settles_by m.tag w
+
+abbrev pub settled_by : acts.Act → Turn → Option acts.Act
+settled_by (variants.Take q position x) t = settles_with (first_message (find q t.place.ports)) t.caller
+settled_by _ t = None
+
+-- what answers the command in its turn
+abbrev pub told_in : Command → Turn → Told
+told_in c t = record { act = own c t; settles = settled_by (own c t) t }
+
+-- what answers the command of the event
+abbrev pub own_by : Command → NetState → Option Seated → Option Told
+own_by c n None = None
+own_by c n (Some w) = Some (told_in c (turn_for c w n))
+
+abbrev pub own_of : Event → NetState → Option Told
 own_of (Enter actor last) n = None
 own_of (See seat clock) n = None
 own_of (Act k c) n = own_by c n (slice_get n.callers k)
 own_of (Deliver k a b) n = None
 
-abbrev pub with_answer : Option acts.Act → Option (List acts.Act) → List acts.Act
+abbrev pub with_answer : Option Told → Option (List Told) → List Told
 with_answer None o = unwrap_or o []
 with_answer (Some a) o = a ∷ unwrap_or o []
 
-abbrev pub answers_after : Move → Option acts.Act → List (List acts.Act) → List (List acts.Act)
+abbrev pub answers_after : Move → Option Told → List (List Told) → List (List Told)
 answers_after (Go i) a told = slice_set told i (with_answer a (slice_get told i))
 answers_after (Carry x z) a told = told
 

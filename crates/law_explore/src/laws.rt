@@ -1,13 +1,14 @@
 //! The laws of races.
 
+ghost use Rattle.std.specs.Prelude.{Bool};
 ghost use Rattle.law_explore.specs.Alike.{ActAlike, CommandsStayAlike, NetsStayAlike, PacketsStayAlike, ReadAlike};
 ghost use Rattle.law_explore.specs.Laws.{AlikeIsAnEquivalence, AlikePositionsComeToTheSame, MovesComeToTheSame, NormalsComeToAll, RacesAreExplored, RacesAreWalked, RacesNeedNormalsOnly};
 ghost use Rattle.law_explore.specs.Levels.{HistoriesAreListed, LevelsStandForAll};
 ghost use Rattle.law_explore.specs.Members.{LevelsOfMergedFindAll, LevelsOfMergedGoOn};
-ghost use Rattle.law_explore.specs.Merging.{PlacesTellTheSame, ToldAlikeGoOn, ToldAlikeIsAnEquivalence};
+ghost use Rattle.law_explore.specs.Merging.{NetsTellTheSame, PlacesTellTheSame, ToldAlikeGoOn, ToldAlikeIsAnEquivalence};
 ghost use Rattle.law_explore.specs.Replays.{MovesAreReplayed};
 ghost use Rattle.law_explore.specs.Neighbours.{NeighboursCommute, NeighboursStay};
-ghost use Rattle.law_explore.specs.Positions.{TellAlike};
+ghost use Rattle.law_explore.specs.Positions.{AskAlike, TellAlike};
 ghost use Rattle.law_explore.specs.Quiet.{NeighboursStayQuiet};
 
 /// Of two events that may come, at two places and of two seats, each may come behind the other, and both orders leave
@@ -62,6 +63,7 @@ pub fn networks_stay_alike()
     ensures reads { NetsStayAlike ReadAlike }
     ensures acts { NetsStayAlike ActAlike }
     ensures tells { NetsStayAlike TellAlike }
+    ensures asks { (asks : Bool) → NetsStayAlike (AskAlike asks) }
 {}
 
 /// What moves come to does not depend on who delivers, nor on any clock.
@@ -78,11 +80,13 @@ pub fn alike_positions_come_to_the_same()
 {}
 
 /// Behind positions that are alike the same may come where what the commands were answered is told in any form, as a text: it
-/// is enough that one answer more keeps what is told the same. And of places that are alike the same outcome comes.
+/// is enough that one answer more keeps what is told the same. And of places that are alike the same outcome comes, and where
+/// claims are asked the same moment.
 pub fn told_alike_positions_come_to_the_same()
     ensures on { ToldAlikeGoOn }
     ensures equivalence { ToldAlikeIsAnEquivalence }
     ensures places { PlacesTellTheSame }
+    ensures moments { NetsTellTheSame }
 {}
 
 /// Of a race gone through level by level, where histories may be put together that come alike: each history has a class

@@ -23,6 +23,74 @@ claim never port 2.p.40 2.a.8 1:1:0 2:1:4 ..;schedule;end|read
 claim port P A .. => port P A;claim nothing left;schedule;end|read
 ";
 
+/// Claims that are asked at each moment, and what is told of moments.
+const AT_MOMENTS: &str = "\
+claim nothing late;claim calls settled;schedule;end|read
+claim throughout never open *;claim throughout always port 1.p.1 .. ! moving 1.p.1 *;schedule;end|read
+claim throughout nothing lost;claim throughout stale A => stale A;schedule;end|read
+claim answer 1 1 .. before answer 2 1 ..;claim nothing lost;claim throughout nothing lost;schedule;end|read
+claim never accepted 1.p.1 .. 1:2:0 .. 1:1:0 .. & copy * P & members 1.g.1 .. P ..;schedule;end|read
+claim never outstanding 1 1 & hand 2 1 1 & next 1 2 & moving 1.p.1 2.a.1;schedule;end|read
+claim answer 2 1 take * X .. => answer 2 1 take * X done 1 ! answer 2 1 take * X late *;schedule;end|read
+claim never members 1.g.1 & accepted 1.p.1;claim never hand 1 1 3;claim never outstanding 1 0;schedule;end|read
+claim never answer 1 1 post 1:1:0 port 1.p.1 plain =before;schedule;end|read
+claim throughout|9 2
+claim throughout possible stale *|9 2
+claim throughout stale A before stale B|9 2
+claim throughout throughout never stale *|9 2
+claim throughout  nothing lost|9 2
+claim throughout nothing forgotten|9 2
+claim throughout nothing lost;claim throughout nothing lost|10 5
+claim throughout never stale 3:1:0|9 4
+claim stale A before|9 2
+claim before stale A|9 2
+claim stale A & stale B before stale C|9 2
+claim stale A before stale B ! stale C|9 2
+claim stale A before stale B => stale C|9 2
+claim never stale A before stale B|9 2
+claim stale A before stale B before stale C|9 2
+claim never stale A & stale before|9 2
+claim stale 3:1:0 before stale 1:1|9 3
+claim possible calls settled|9 2
+";
+
+/// Facts of moments with too few words or too many, with words of another kind, and with what there is not.
+const FAULTY_FACTS: &str = "\
+claim never open|9 2
+claim never open A B|9 2
+claim never copy A|9 2
+claim never copy A B C|9 2
+claim never accepted|9 2
+claim never members|9 2
+claim never moving A|9 2
+claim never outstanding 1|9 2
+claim never hand 1 1|9 2
+claim never next 1|9 2
+claim never next 1 1 1|9 2
+claim never settled A|9 2
+claim never members 1.p.1 ..|9 3
+claim never accepted 1.g.1 ..|9 3
+claim never accepted 1.p.1 1.p.1|9 3
+claim never moving 1.p.1 1.p.2|9 3
+claim never copy 1:1:1 1.a.1|9 3
+claim never outstanding 1 x|9 3
+claim never hand 1 x 1|9 3
+claim never next x 1|9 3
+claim never outstanding 1 18446744073709551616|9 6
+claim never next 3 1|9 4
+claim never next 1 3|9 4
+claim never next 1 0|9 4
+claim never hand 3 1 1|9 4
+claim never hand 1 3 1|9 4
+claim never outstanding 3 1|9 4
+claim never open 3:1:0|9 4
+claim never copy 1:1:1 3.p.1|9 4
+claim never members 3.g.1|9 4
+claim never members 1.g.1 3.p.1|9 4
+claim never accepted 1.p.1 3:1:0|9 4
+claim never moving 1.p.1 3.a.1|9 4
+";
+
 /// A claim stands behind the scripts and in front of the schedule.
 const OUT_OF_PLACE: &str = "\
 claim nothing lost;script 1.a.2|10 7
@@ -130,6 +198,8 @@ fn claims_are_read_or_refused(rt: HostRuntime) {
     let alloc = rt.alloc();
     let sixteen = layout_of(&rt, 16, 1);
     assert_rows(&rt, alloc, "taken", sixteen, TWO_SCRIPTS, TAKEN);
+    assert_rows(&rt, alloc, "moments", sixteen, TWO_SCRIPTS, AT_MOMENTS);
+    assert_rows(&rt, alloc, "facts", sixteen, TWO_SCRIPTS, FAULTY_FACTS);
     assert_rows(&rt, alloc, "order", sixteen, TWO_SCRIPTS, OUT_OF_PLACE);
     assert_rows(&rt, alloc, "no claims", sixteen, TWO_SCRIPTS, NO_CLAIMS);
     assert_rows(&rt, alloc, "words", sixteen, TWO_SCRIPTS, FAULTY_WORDS);

@@ -2,8 +2,8 @@ use Rattle.std.proofs.Common.{◌≡◌, sym, ◌∙◌, ap, []}
 use Rattle.std.specs.Option.{option_copied}
 use Rattle.chorus_claims.specs.Words.{words_behind, words_in}
 use Rattle.chorus_claims.specs.Shapes.{facts_in}
-use Rattle.chorus_claims.specs.Ways.{meanings_of, goes_on, right_of}
-use Rattle.chorus_claims.proofs.Steps.{is-empty, no-lines, all-left, first-so, later-so}
+use Rattle.chorus_claims.specs.Ways.{meanings_of, goes_on, right_of, way_from, each_tail}
+use Rattle.chorus_claims.proofs.Steps.{is-empty, no-lines, all-left, first-so, later-so, at-rest, rests-behind}
 use Rattle.chorus_claims.proofs.matching.+ways.Goals as goal
 
 pub each_line-returns : goal.each_line-returns
@@ -31,3 +31,14 @@ pub one_fact-returns-in-None : goal.one_fact-returns-in-None
 one_fact-returns-in-None t c =
     later-so c.args.asked.now (words_behind (option_copied c.args.fact)) (meanings_of c.args.letters.now) [] (sym c.each_line.ensures ∙ c.if-not-each_line.false)
     c.in-None.ensures.facts
+
+pub way_from-returns-then-is_rest : goal.way_from-returns-then-is_rest
+way_from-returns-then-is_rest t c =
+    let ws = words_behind (option_copied c.loop-piece.line) in
+    let e = meanings_of c.args.letters.now in
+    c.each_tail.ensures
+    ∙ ap (λ ps. each_tail c.args.asked.now c.args.ending ps ws e) c.behind_rests.ensures.words
+    ∙ sym (rests-behind c.args.asked.now c.args.ending (words_behind (option_copied c.in-Some.behind)) ws e)
+    ∙ sym (at-rest c.args.asked.now c.args.ending c.in-Some.piece.now (words_behind (option_copied c.in-Some.behind)) ws e (sym c.is_rest.ensures ∙ c.if-is_rest.true))
+    ∙ ap (λ ps. way_from c.args.asked.now c.args.ending ps ws e) (sym c.in-Some.ensures.words)
+    ∙ c.loop-piece.invariant.0

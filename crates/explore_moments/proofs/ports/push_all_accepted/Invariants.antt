@@ -1,0 +1,13 @@
+use Rattle.std.proofs.Common.{◌≡◌, ◌++◌, take}
+use Rattle.std.specs.List.{flat_map}
+use Rattle.chorus_ui.specs.declared.ui.Ui.{Ui}
+use Rattle.law_explore.specs.Outcome.{Accepted}
+use Rattle.law_explore.specs.Moment.{in_order, accepts_in}
+use Rattle.explore_report.specs.Facts.{fact_line}
+use Rattle.explore_moments.specs.Moments.{states}
+use Rattle.explore_moments.proofs.ports.push_all_accepted.Given as goal
+
+-- those passed are told
+abbrev pub invariant-loop-port : goal.invariant-loop-port
+invariant-loop-port l =
+    l.text.items ≡ l.initial.text.items ++ flat_map (λ (q : Ui). fact_line (Accepted q (in_order (accepts_in q (states l.places))))) (take l.port-index l.made)
