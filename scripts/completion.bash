@@ -10,6 +10,7 @@ _chorus() {
     1,audit | 1,judge | 1,picture | 1,page) words=16 ;;
     2,audit | 2,judge | 2,picture | 2,page | 1,run) words='1 2 4' ;;
     1,explore) words=--scenario ;;
+    1,check) words=--drawn ;;
     esac
     mapfile -t COMPREPLY < <(compgen -W "$words" -- "$word")
     case $((COMP_CWORD - first)),${COMP_WORDS[first]-} in

@@ -12,14 +12,15 @@ use Rattle.chorus_show.specs.declared.status.Status.TheVariants as statuses
 use Rattle.chorus_explore.specs.Stages.{MayWear}
 use Rattle.chorus_explore.proofs.Entering.{wears-late}
 use Rattle.chorus_check.specs.declared.checked.Checked.{Checked}
+use Rattle.chorus_check.specs.declared.schedules.Schedules.{Schedules}
 use Rattle.chorus_check.specs.Ends.{EndsAsCheck, IsCheck, status_of}
 
-module _ {S K : Type 0} (l : Layout) (most : ℕ) (left : S → Option (List ℕ)) (faults : S → ℕ) (reliable : S → Type 0) (from rest : S) (held : K → Option (List ℕ)) (failures : K → ℕ) where
+module _ {S K : Type 0} (l : Layout) (asked : Schedules) (left : S → Option (List ℕ)) (faults : S → ℕ) (reliable : S → Type 0) (from rest : S) (held : K → Option (List ℕ)) (failures : K → ℕ) where
   abbrev pub Reads : Status → Type 0
   Reads status = EndsReading l status left faults reliable from rest
 
   abbrev pub EndsSo : K → K → Result Checked Status → Type 0
-  EndsSo old new end = EndsAsCheck l most end left faults reliable from rest held failures old new
+  EndsSo old new end = EndsAsCheck l asked end left faults reliable from rest held failures old new
 
   -- before anything was gone over
   pub gave-up : (k : K) (status : Status) → GivesUp status → Reads status → EndsSo k k (Err status)
@@ -45,7 +46,7 @@ module _ {S K : Type 0} (l : Layout) (most : ℕ) (left : S → Option (List ℕ
     }
 
     -- by writing the text
-    pub wrote : (old new : K) (end : Result Checked Status) (text : List ℕ) (checked : Checked) → IsCheck c most text checked → (end ≡ Ok checked) ⊎ (end ≡ Err statuses.WriteFault)
+    pub wrote : (old new : K) (end : Result Checked Status) (text : List ℕ) (checked : Checked) → IsCheck c asked text checked → (end ≡ Ok checked) ⊎ (end ≡ Err statuses.WriteFault)
         → Writes (status_of end) (held old) (held new) text → (end ≡ Err statuses.WriteFault → Rose (failures old) (failures new)) → EndsSo old new end
     wrote old new end text checked is (inl done) writes fault =
         let at_done = subst (λ (e : Result Checked Status). Writes (status_of e) (held old) (held new) text) done writes in

@@ -1,4 +1,4 @@
--- Where a check ends with all claims holding, each is so at the end of every replay.
+-- Where a check ends with all claims holding, each is so of every replay.
 -- c is a scenario, ks are claims, vs is what is said of them, n the number of the first.
 use Rattle.std.proofs.Common.{ℕ, zero, suc, ◌≡◌, ◌+◌, ◌<◌, Bool, true, false, cond, not, List, [], ◌∷◌, length, get_or, Option, Some, None, slice_get, ◌⊎◌, inl, inr, refl, sym, ◌∙◌, ap, arith}
 use Rattle.std.specs.List.{All}
@@ -8,6 +8,7 @@ use Rattle.chorus_scene.specs.Scene.{Scene}
 use Rattle.chorus_explore.specs.Checked as verdicts
 use Rattle.chorus_explore.specs.Checked.{Judged, Verdict, verdicts_of}
 use Rattle.chorus_explore.specs.Shown.{ReplaysAreWhole}
+use Rattle.chorus_explore.proofs.Deciding.{met-along}
 use Rattle.chorus_check.specs.declared.checked.Checked.TheVariants.{Holds}
 use Rattle.chorus_check.specs.Kept.{HoldingClaimsAreMet, IsMetBy, IsShownPossible}
 use Rattle.chorus_check.specs.Words.{checked_by, claim_fails, claims_of, first_failed, first_open, is_open}
@@ -61,7 +62,7 @@ holding-claims-are-met replays c most text is shape = (
   λ i d lt. (each i d lt).1,
   λ steps status closed keeps ordered unworn.
       (let one = replays c steps status closed shape keeps ordered unworn in
-      (one.0, (one.1.1, λ i d lt p. (each i d lt).0 p one.0 one.1.0))),
+      (one.0, (one.1.1, λ i d lt p. met-along c (get_or (claims_of c) i d) one.0 ((each i d lt).0 p) one.1.0))),
 )
   where
     each : (i : ℕ) (d : Claim) → i < length (claims_of c) → ((get_or (claims_of c) i d).possible ≡ false → Judged c (get_or (claims_of c) i d) verdicts.Holds) × IsShownPossible c (get_or (claims_of c) i d)

@@ -1,5 +1,5 @@
 -- The text of a check.
--- texts are claims as they are spelled, ks are the claims, vs is what is said of them, facts are
+-- asked are the schedules of which claims are asked, texts are claims as they are spelled, ks are the claims, vs is what is said of them, facts are
 -- the lines where the schedules lead, n is the number of a claim.
 use Rattle.std.specs.Prelude.{ℕ, ◌+◌, if◌then◌else◌, Bool, List, [], ◌∷◌, ◌++◌, length, reverse, codes, decimal}
 use Rattle.std.specs.List.{flat_map}
@@ -10,6 +10,8 @@ use Rattle.chorus_show.specs.Phrases.{phrase}
 use Rattle.explore_report.specs.Lines.{lines_in}
 use Rattle.explore_report.specs.Reports.{step_line}
 use Rattle.chorus_explore.specs.Checked.{Verdict, Holds, Fails, Open}
+use Rattle.chorus_check.specs.declared.schedules.Schedules.{Schedules}
+use Rattle.chorus_check.specs.declared.schedules.Schedules.TheVariants.{All, Drawn}
 
 -- The words turn where `possible F` is asked, which is kept as `never F`: it holds where a schedule
 -- does not meet that.
@@ -43,7 +45,12 @@ abbrev pub schedule_texts : ℕ → List Verdict → List (List ℕ) → List �
 schedule_texts n (v ∷ vs) (facts ∷ rest) = schedule_text n v facts ++ schedule_texts (n + 1) vs rest
 schedule_texts n _ _ = []
 
-abbrev pub check_text : ℕ → List (List ℕ) → List Claim → List Verdict → List (List ℕ) → List ℕ
-check_text events texts ks vs facts =
-    count_line (codes "events") events ++ count_line (codes "claims") (length texts)
+-- by what the schedules are drawn, where they are
+abbrev pub drawn_line : Schedules → List ℕ
+drawn_line (All most) = []
+drawn_line (Drawn count first) = phrase (codes "drawn") (decimal count ∷ decimal first ∷ []) ++ 10 ∷ []
+
+abbrev pub check_text : Schedules → ℕ → List (List ℕ) → List Claim → List Verdict → List (List ℕ) → List ℕ
+check_text asked events texts ks vs facts =
+    drawn_line asked ++ count_line (codes "events") events ++ count_line (codes "claims") (length texts)
     ++ verdict_lines 1 texts ks vs ++ schedule_texts 1 vs facts ++ codes "end" ++ 10 ∷ []

@@ -4,7 +4,8 @@ ghost use Rattle.chorus_check.specs.Kept.{HoldingClaimsAreMet};
 
 /// Where a check ends with all claims holding, what a claim asks to be possible is shown by a
 /// schedule, and every replay of the scenario, whatever lines stand behind `schedule`, meets all
-/// other claims at its end, unless a clock is worn.
+/// other claims at its end, and at each moment on its way those that are asked there, unless a
+/// clock is worn.
 pub fn holding_claims_are_met()
     ensures { HoldingClaimsAreMet }
 {}

@@ -6,35 +6,60 @@ ghost use Rattle.explore_report.specs.declared.explored.Explored.{Explored};
 ghost use Rattle.explore_report.specs.Lines.{lines_in};
 ghost use Rattle.chorus_explore.specs.Checked as Verdict;
 ghost use Rattle.chorus_explore.specs.Checked.{facts_in, verdict_of, verdicts_of};
-ghost use Rattle.chorus_check.specs.Texts.{check_text, schedule_text, schedule_texts, met_word, unmet_word, verdict_line, verdict_lines, verdict_text};
+ghost use Rattle.chorus_check.specs.Texts.{check_text, drawn_line, schedule_text, schedule_texts, met_word, unmet_word, verdict_line, verdict_lines, verdict_text};
 
+use crate::schedules::Schedules;
 use chorus_claims::Claim;
 use chorus_scene::ClaimText;
 use chorus_ui::push_decimal;
 use explore_report::{Explored, Judgement, push_count, push_steps};
 use std::alloc::{AllocError, Global};
 
-/// The text of what was found of the claims, which are spelled so: how many events it took, what is
-/// said of each claim, and of each that a schedule does not meet that schedule and the facts where
-/// it leads. The only error is want of memory.
+/// The text of what was found by these schedules of the claims, which are spelled so: where they are
+/// drawn, by what, how many events it took, what is said of each claim, and of each that a schedule
+/// does not meet that schedule and the facts where it leads. The only error is want of memory.
 pub(crate) fn check_text(
     alloc: Global,
+    schedules: Schedules,
     texts: &[ClaimText],
     claims: &[Claim],
     explored: &Explored,
 ) -> Result<Vec<u8>, AllocError>
     requires claims { length claims.now ≡ length texts.now }
     requires judged { length explored.now.judged.items ≡ length claims.now }
-    ensures { IfOk result (λ text. text.items ≡ check_text explored.now.events texts.now claims.now
-        (verdicts_of explored.now) (map facts_in explored.now.judged.items)) }
+    ensures { IfOk result (λ text. text.items ≡ check_text schedules explored.now.events
+        texts.now claims.now (verdicts_of explored.now) (map facts_in explored.now.judged.items)) }
 {
     let mut text = Vec::new(alloc);
+    push_drawn(schedules, &mut text)?;
     push_count("events", explored.events, &mut text)?;
     push_count("claims", texts.len() as u64, &mut text)?;
     push_verdicts(texts, claims, explored, &mut text)?;
     push_schedules(explored, &mut text)?;
     text.extend_from_slice(b"end\n")?;
     Ok(text)
+}
+
+/// Appends by what the schedules are drawn, where they are.
+fn push_drawn(schedules: Schedules, text: &mut Vec<u8>) -> Result<(), AllocError>
+    ensures { OnOk result (text.new.items ≡ text.old.items ++ drawn_line schedules) }
+{
+    match schedules {
+        Schedules::All { .. } => Ok(()),
+        Schedules::Drawn { count, first } => push_draws(count, first, text),
+    }
+}
+
+/// Appends the line of so many schedules that are drawn from the first state on.
+fn push_draws(count: u32, first: u64, text: &mut Vec<u8>) -> Result<(), AllocError>
+    ensures { OnOk result (text.new.items
+        ≡ text.old.items ++ drawn_line (Schedules.Drawn count first)) }
+{
+    push_counted("drawn", u64::from(count), text)?;
+    text.push(b' ')?;
+    push_decimal(first, text)?;
+    text.push(b'\n')?;
+    Ok(())
 }
 
 /// Appends a line for each claim.

@@ -1,4 +1,5 @@
 pub mod Kept
 pub mod Lists
 pub mod Networks
+pub mod Orders
 pub mod Telling

@@ -1,6 +1,6 @@
 -- The entry that answers a command of a script.
 -- c is a scenario, s a stage, i the place of a script, d its next command, p the number of a place.
-use Rattle.std.proofs.Common.{ℕ, suc, ◌≡◌, ◌+◌, ◌^◌, ◌<◌, ◌≤◌, true, List, ◌∷◌, ◌++◌, length, reverse, set, option_to_list, Some, slice_get, sym, ◌∙◌, ap, ap₂, subst, arith}
+use Rattle.std.proofs.Common.{ℕ, suc, ◌≡◌, ◌+◌, ◌^◌, ◌<◌, ◌≤◌, true, List, ◌∷◌, ◌++◌, length, reverse, set, option_to_list, Option, Some, slice_get, sym, ◌∙◌, ap, subst, arith}
 use Rattle.std.specs.Option.{option_map}
 use Rattle.std.proofs.lemmas.List.{length-reverse, reverse-reverse}
 use Rattle.chorus_ui.specs.declared.layout.Layout.{Layout}
@@ -13,17 +13,22 @@ use Rattle.chorus_entry.specs.declared.entry.Entry.{Entry}
 use Rattle.chorus_entry.specs.Places.{place_for}
 use Rattle.law_machine.specs.Own.{own}
 use Rattle.law_machine.specs.PlaceState.{next_entry}
-use Rattle.law_network.specs.Network.{NetState, Act, happened, place, turn_for}
+use Rattle.chorus_calls.specs.Callers.{Seated}
+use Rattle.law_machine.specs.PlaceMachine.{act as act-in}
+use Rattle.law_machine.specs.Replies.{reply}
+use Rattle.law_network.specs.Network.{NetState, Act, happened, place, replied, turn_for}
 use Rattle.law_network.proofs.Events.Said.{act-goes}
 use Rattle.law_explore.specs.declared.moves.Move.TheVariants.{Go}
-use Rattle.law_explore.specs.Outcome.{Answered, post_in}
+use Rattle.law_explore.specs.Outcome.{post_in}
+use Rattle.law_explore.specs.Races.{Told, told_in}
 use Rattle.chorus_scene.specs.Limits.{Keeps}
 use Rattle.chorus_scene.specs.Scene.{Scene}
 use Rattle.chorus_net.specs.Sites.{IsScheduled, net}
 use Rattle.chorus_net.specs.Worn.{compared_by}
 use Rattle.chorus_explore.specs.declared.race_sites.Progress.{Progress}
 use Rattle.chorus_explore.specs.declared.race_sites.Stage.{Stage}
-use Rattle.explore_report.specs.Facts.{fact_line}
+use Rattle.chorus_explore.specs.Tellings.{answered_line, settles_in}
+use Rattle.chorus_explore.proofs.Settling.{settles-of-reply}
 use Rattle.chorus_explore.specs.Stages.{AreAt, IsNext, IsPlaceFor, IsReached, MayWear, moves_of, position}
 use Rattle.chorus_explore.proofs.Entering.{wears-behind}
 use Rattle.chorus_explore.proofs.Keeping.{script-keeps}
@@ -61,22 +66,38 @@ module _ (c : Scene) (s : Stage) (h : IsReached c s) (i : ℕ) (d : Command) (g 
         act = ap (λ (m : NetState). own d (turn_for d w m)) h.at.net;
       }
 
--- the stage behind the command
-pub performed-by : (c : Scene) (s t : Stage) (i : ℕ) (d : Command) (old new : Progress) (act : acts.Act) → (h : IsReached c s) → (next : IsNext c (moves_of s) i d)
-    → net t.sites ≡ happened (Act (i + 1) d) (net s.sites) → slice_get s.scripts.items i ≡ Some old → t.scripts.items ≡ set s.scripts.items i new
+-- what answered it: the act of that entry, and what the reply says
+told-is : (c : Scene) (s : Stage) (h : IsReached c s) (i : ℕ) (d : Command) (next : IsNext c (moves_of s) i d) (act : acts.Act) (settles : Option acts.Act)
     → act ≡ own d (turn_for d (goes-by c s h i d next).caller.caller (position c (moves_of s)).net)
-    → new.next ≡ old.next + 1 → new.answers.items ≡ old.answers.items ++ fact_line (Answered (i + 1) (old.next + 1) act) → new.posts.items ≡ old.posts.items ++ option_to_list (post_in act)
-    → AreAt c (Go i ∷ moves_of s) t
-performed-by c s t i d old new act h next is found scripts own-is more answers posts =
+    → Some settles ≡ option_map settles_in (replied (i + 1) d (net s.sites))
+    → (let it : Told = record { act = act; settles = settles } in it) ≡ told_in d (turn_for d (goes-by c s h i d next).caller.caller (position c (moves_of s)).net)
+told-is c s h i d next act settles own-is reply-is =
     let g = goes-by c s h i d next in
-    let a = own d (turn_for d g.caller.caller (position c (moves_of s)).net) in
+    let w = g.caller.caller in
+    let n = (position c (moves_of s)).net in
+    let after : i + 1 ≡ suc i = omega arith in
+    let found : replied (i + 1) d (net s.sites) ≡ Some (reply d (turn_for d w n)) =
+    ap (λ (k : ℕ). replied k d (net s.sites)) after ∙ ap (replied (suc i) d) h.at.net ∙ ap (option_map (λ (caller : Seated). reply d (turn_for d caller n))) g.caller.is in
+    let same = some-same settles (settles_in (reply d (turn_for d w n))) (reply-is ∙ ap (option_map settles_in) found) in
+    (λ j. record { act = own-is j; settles = (same ∙ settles-of-reply (own d (turn_for d w n)) (turn_for d w n) (act-in d (turn_for d w n))) j })
+
+-- the stage behind the command
+pub performed-by : (c : Scene) (s t : Stage) (i : ℕ) (d : Command) (old new : Progress) (act : acts.Act) (settles : Option acts.Act) → (h : IsReached c s) → (next : IsNext c (moves_of s) i d)
+    → net t.sites ≡ happened (Act (i + 1) d) (net s.sites) → slice_get s.scripts.items i ≡ Some old → t.scripts.items ≡ set s.scripts.items i new → t.asks ≡ s.asks
+    → act ≡ own d (turn_for d (goes-by c s h i d next).caller.caller (position c (moves_of s)).net)
+    → Some settles ≡ option_map settles_in (replied (i + 1) d (net s.sites))
+    → new.next ≡ old.next + 1 → new.answers.items ≡ old.answers.items ++ answered_line s.asks (i + 1) (old.next + 1) act settles → new.posts.items ≡ old.posts.items ++ option_to_list (post_in act)
+    → AreAt c (Go i ∷ moves_of s) t
+performed-by c s t i d old new act settles h next is found scripts asks own-is reply-is more answers posts =
+    let g = goes-by c s h i d next in
     let same : old ≡ g.at.p = some-same old g.at.p (sym found ∙ g.at.is_p) in
     let after : i + 1 ≡ suc i = omega arith in
     let number : i + 1 ≡ 1 + i = omega arith in
-    performed c i s t d new h g (is ∙ ap (λ (k : ℕ). happened (Act k d) (net s.sites)) after) scripts
+    performed c i s t d new h g (is ∙ ap (λ (k : ℕ). happened (Act k d) (net s.sites)) after) scripts asks
+    (record { act = act; settles = settles }) (told-is c s h i d next act settles own-is reply-is)
     (more ∙ ap (λ (q : Progress). q.next + 1) same)
-    (answers ∙ ap (λ (k : ℕ). old.answers.items ++ fact_line (Answered k (old.next + 1) act)) number ∙ ap₂ (λ (q : Progress) (x : acts.Act). q.answers.items ++ fact_line (Answered (1 + i) (q.next + 1) x)) same own-is)
-    (posts ∙ ap₂ (λ (q : Progress) (x : acts.Act). q.posts.items ++ option_to_list (post_in x)) same own-is)
+    (answers ∙ ap (λ (k : ℕ). old.answers.items ++ answered_line s.asks k (old.next + 1) act settles) number ∙ ap (λ (q : Progress). q.answers.items ++ answered_line s.asks (1 + i) (q.next + 1) act settles) same)
+    (posts ∙ ap (λ (q : Progress). q.posts.items ++ option_to_list (post_in act)) same)
 
 -- a script that goes on is there, and its command has a number of 32 bits
 pub script-below : (c : Scene) (s : Stage) (i : ℕ) (d : Command) → (h : IsReached c s) → IsNext c (moves_of s) i d → i < length s.scripts.items

@@ -1,7 +1,7 @@
 -- How many moves a search has carried out.
 -- r is a race, c a scenario, asked is what is asked of a search, n a number of moves, s is one, e what it came to, cs are classes with
 -- their members.
-use Rattle.std.proofs.Common.{ℕ, zero, suc, ◌≡◌, ◌+◌, ◌<◌, ◌≤◌, true, false, List, [], ◌∷◌, length, take, drop, sum_by, Some, slice_get, ◌⊎◌, inl, inr, refl, sym, ◌∙◌, ap, subst, arith}
+use Rattle.std.proofs.Common.{ℕ, zero, suc, ◌≡◌, ◌+◌, ◌<◌, ◌≤◌, Bool, true, false, List, [], ◌∷◌, length, take, drop, sum_by, Some, slice_get, ◌⊎◌, inl, inr, refl, sym, ◌∙◌, ap, subst, arith}
 use Rattle.std.specs.List.{All, Contains}
 use Rattle.std.proofs.lemmas.Bool.{cases_lt, false≢true}
 use Rattle.std.proofs.lemmas.List.Elements.{All-nil, All-cons}
@@ -23,7 +23,7 @@ use Rattle.chorus_explore.specs.declared.level_search.Class.{Class}
 use Rattle.chorus_explore.specs.declared.level_search.Search.{Search}
 use Rattle.chorus_explore.specs.Classes.{StandFor, moves_from, shown_by}
 use Rattle.chorus_explore.specs.Events.{AreLevels, CarriesOut, GoOnFrom, all_moves, moves_behind}
-use Rattle.chorus_explore.specs.Searches.{IsWithin}
+use Rattle.chorus_explore.specs.Searches.{IsWithin, asks_of}
 use Rattle.chorus_explore.specs.Tellings.{tells_of}
 use Rattle.chorus_explore.proofs.Alike.{tells-on}
 use Rattle.chorus_explore.proofs.Racing.{is-race}
@@ -75,32 +75,32 @@ module _ {X : Type 0} (ask : X → ℕ) where
 
 -- A class goes on by as many moves as its members.
 
-moves-the-same : (c : Scene) (n : ℕ) (classes : List Class) (cs : List Merged) → StandFor (race_of c) n classes cs → moves_from c classes ≡ moves_behind (race_of c) cs
-moves-the-same c n [] [] h = refl
-moves-the-same c n [] (m ∷ cs) h = absurd h
-moves-the-same c n (k ∷ classes) [] h = absurd h
-moves-the-same c n (k ∷ classes) (m ∷ cs) h =
+moves-the-same : (asks : Bool) (c : Scene) (n : ℕ) (classes : List Class) (cs : List Merged) → StandFor asks (race_of c) n classes cs → moves_from c classes ≡ moves_behind (race_of c) cs
+moves-the-same asks c n [] [] h = refl
+moves-the-same asks c n [] (m ∷ cs) h = absurd h
+moves-the-same asks c n (k ∷ classes) [] h = absurd h
+moves-the-same asks c n (k ∷ classes) (m ∷ cs) h =
     let a = sum_by-cons (λ (class : Class). length (next_behind (race_of c) (shown_by class))) k classes in
     let b = sum_by-cons (λ (m : Merged). length (next_behind (race_of c) m.shows)) m cs in
     let one : length (next_behind (race_of c) m.shows) ≡ length (next_behind (race_of c) (shown_by k)) = ap (λ (h : List Move). length (next_behind (race_of c) h)) h.0.shows in
-    let rest = moves-the-same c n classes cs h.1 in
+    let rest = moves-the-same asks c n classes cs h.1 in
     omega (arith, a, b, one, rest)
 
-all-among : (r : Race) (n : ℕ) (classes : List Class) (cs : List Merged) → StandFor r n classes cs → All (λ (m : Merged). Contains m.members m.shows) cs
-all-among r n [] [] h = All-nil (λ (m : Merged). Contains m.members m.shows)
-all-among r n [] (m ∷ cs) h = absurd h
-all-among r n (k ∷ classes) [] h = absurd h
-all-among r n (k ∷ classes) (m ∷ cs) h = All-cons (λ (m : Merged). Contains m.members m.shows) m cs h.0.among (all-among r n classes cs h.1)
+all-among : (asks : Bool) (r : Race) (n : ℕ) (classes : List Class) (cs : List Merged) → StandFor asks r n classes cs → All (λ (m : Merged). Contains m.members m.shows) cs
+all-among asks r n [] [] h = All-nil (λ (m : Merged). Contains m.members m.shows)
+all-among asks r n [] (m ∷ cs) h = absurd h
+all-among asks r n (k ∷ classes) [] h = absurd h
+all-among asks r n (k ∷ classes) (m ∷ cs) h = All-cons (λ (m : Merged). Contains m.members m.shows) m cs h.0.among (all-among asks r n classes cs h.1)
 
 -- The levels below this one were gone on from.
-pub record HasCarried (r : Race) (n : ℕ) (e : Explored) : Type 0 where
+pub record HasCarried (asks : Bool) (r : Race) (n : ℕ) (e : Explored) : Type 0 where
   pub levels : List (List Merged)
-  pub are : AreLevels r levels
+  pub are : AreLevels asks r levels
   pub below : length levels ≡ n
   pub all : e.events ≡ all_moves r levels
 
-pub none-carried : (r : Race) (e : Explored) → e.events ≡ 0 → HasCarried r 0 e
-none-carried r e none = record { levels = []; are = tt; below = refl; all = none }
+pub none-carried : (asks : Bool) (r : Race) (e : Explored) → e.events ≡ 0 → HasCarried asks r 0 e
+none-carried asks r e none = record { levels = []; are = tt; below = refl; all = none }
 
 -- where no class is left, no history is longer
 
@@ -108,15 +108,15 @@ some-listed : (hs : List (List Move)) (h : List Move) → Contains hs h → 1 �
 some-listed [] h i = absurd (none h i)
 some-listed (k ∷ hs) h i = (let a = sum_by-cons (λ (k : List Move). 1) k hs in omega (arith, a))
 
-none-longer : (c : Scene) (n : ℕ) (ends : List (List Move)) → IsLevel tells_of (race_of c) n [] ends → (h : List Move) → IsHistory (replaying (race_of c)) h → length h ≤ n
-none-longer c n ends level [] is = omega arith
-none-longer c n ends level (m ∷ t) is = by (none-longer c n ends level t is.1) (cases_lt (length t) n)
+none-longer : (asks : Bool) (c : Scene) (n : ℕ) (ends : List (List Move)) → IsLevel (tells_of asks) (race_of c) n [] ends → (h : List Move) → IsHistory (replaying (race_of c)) h → length h ≤ n
+none-longer asks c n ends level [] is = omega arith
+none-longer asks c n ends level (m ∷ t) is = by (none-longer asks c n ends level t is.1) (cases_lt (length t) n)
   where
     by : length t ≤ n → (length t < n) ⊎ (n ≤ length t) → length (m ∷ t) ≤ n
     by before (inl lt) = omega (arith, lt)
     by before (inr le) =
         let long : length (m ∷ t) ≡ suc n = omega (arith, before, le) in
-        let none = (levels-of-merged-go-on tells_of (race_of c) tells-on (is-race c)).1 n [] ends level (λ (k : List Move). 1) in
+        let none = (levels-of-merged-go-on (tells_of asks) (race_of c) (tells-on asks) (is-race c)).1 n [] ends level (λ (k : List Move). 1) in
         let some = some-listed (histories_of (race_of c) (suc n)) (m ∷ t) (are-listed (race_of c) (suc n) (m ∷ t) is long) in
         absurd (omega (arith, none, some))
 
@@ -124,27 +124,27 @@ less-behind : (r : Race) (levels : List (List Merged)) → all_moves r (drop 1 l
 less-behind r [] = omega arith
 less-behind r (cs ∷ levels) = (let a = sum_by-cons (λ (cs : List Merged). moves_behind r cs) cs levels in omega (arith, a))
 
-module _ (c : Scene) (asked : Asked) (n : ℕ) (s : Search) (w : IsWithin c asked n [] s) (so-far : HasCarried (race_of c) n s.explored) where
+module _ (c : Scene) (asked : Asked) (n : ℕ) (s : Search) (w : IsWithin c asked n [] s) (so-far : HasCarried (asks_of asked) (race_of c) n s.explored) where
   abbrev r : Race
   r = race_of c
 
   abbrev on : List (List Merged)
   on = w.merged ∷ so-far.levels
 
-  goes-on : GoOnFrom (race_of c) n w.merged
-  goes-on = record { ends = w.ends; level = is-level c asked n s w; among = all-among r n s.next.items w.merged w.stand; go_on = w.go_on }
+  goes-on : GoOnFrom (asks_of asked) (race_of c) n w.merged
+  goes-on = record { ends = w.ends; level = is-level c asked n s w; among = all-among (asks_of asked) r n s.next.items w.merged w.stand; go_on = w.go_on }
 
-  all-are : AreLevels (race_of c) on
-  all-are = (subst (λ (k : ℕ). GoOnFrom (race_of c) k w.merged) (sym so-far.below) goes-on, so-far.are)
+  all-are : AreLevels (asks_of asked) (race_of c) on
+  all-are = (subst (λ (k : ℕ). GoOnFrom (asks_of asked) (race_of c) k w.merged) (sym so-far.below) goes-on, so-far.are)
 
   one-more : all_moves (race_of c) on ≡ moves_from c s.next.items + all_moves (race_of c) so-far.levels
   one-more =
       let a = sum_by-cons (λ (cs : List Merged). moves_behind (race_of c) cs) w.merged so-far.levels in
-      let b = moves-the-same c n s.next.items w.merged w.stand in
+      let b = moves-the-same (asks_of asked) c n s.next.items w.merged w.stand in
       omega (arith, a, b)
 
   -- all of this level were carried out
-  pub carried-on : (e : Explored) → e.events ≡ s.explored.events + moves_from c s.next.items → HasCarried (race_of c) (suc n) e
+  pub carried-on : (e : Explored) → e.events ≡ s.explored.events + moves_from c s.next.items → HasCarried (asks_of asked) (race_of c) (suc n) e
   carried-on e events = record {
     levels = on;
     are = all-are;
@@ -153,7 +153,7 @@ module _ (c : Scene) (asked : Asked) (n : ℕ) (s : Search) (w : IsWithin c aske
   }
 
   -- or some of them
-  pub carried-some : (e : Explored) → e.is_cut ≡ true → e.bound ≡ suc n → s.explored.events ≤ e.events → e.events ≤ s.explored.events + moves_from c s.next.items → CarriesOut (race_of c) e
+  pub carried-some : (e : Explored) → e.is_cut ≡ true → e.bound ≡ suc n → s.explored.events ≤ e.events → e.events ≤ s.explored.events + moves_from c s.next.items → CarriesOut (asks_of asked) (race_of c) e
   carried-some e cut bound least most = record {
     levels = on;
     are = all-are;
@@ -165,7 +165,7 @@ module _ (c : Scene) (asked : Asked) (n : ℕ) (s : Search) (w : IsWithin c aske
   }
 
   -- and where it is not cut off none is left
-  pub carried-all : (e : Explored) → e.events ≡ s.explored.events → e.bound ≡ s.explored.bound → (e.is_cut ≡ false → s.next.items ≡ []) → CarriesOut (race_of c) e
+  pub carried-all : (e : Explored) → e.events ≡ s.explored.events → e.bound ≡ s.explored.bound → (e.is_cut ≡ false → s.next.items ≡ []) → CarriesOut (asks_of asked) (race_of c) e
   carried-all e events bound left = record {
     levels = so-far.levels;
     are = so-far.are;
@@ -175,8 +175,8 @@ module _ (c : Scene) (asked : Asked) (n : ℕ) (s : Search) (w : IsWithin c aske
     all = λ uncut. (let a = so-far.all in omega (arith, a, events));
     last = λ uncut h is.
         (let nothing = none-merged c asked n s w s.next.items w.merged w.stand (left uncut) in
-        let level = subst (λ cs. IsLevel tells_of (race_of c) n cs w.ends) nothing (is-level c asked n s w) in
-        let within = none-longer c n w.ends level h is in
+        let level = subst (λ cs. IsLevel (tells_of (asks_of asked)) (race_of c) n cs w.ends) nothing (is-level c asked n s w) in
+        let within = none-longer (asks_of asked) c n w.ends level h is in
         let b = w.bound in
         omega (arith, within, b, bound));
   }

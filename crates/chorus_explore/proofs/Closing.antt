@@ -1,10 +1,10 @@
 -- What is told when the sites are closed is the outcome of the moves.
 -- c is a scenario, s a stage, told are the acts that answered, ps are places, js journals with the oldest entry first.
-use Rattle.std.proofs.Common.{ℕ, ◌≡◌, List, [], ◌++◌, sym, ◌∙◌, ap, ap₂}
+use Rattle.std.proofs.Common.{ℕ, ◌≡◌, Bool, false, List, [], ◌++◌, sym, ◌∙◌, ap, ap₂, subst}
 use Rattle.std.specs.Global.{Vec}
 use Rattle.std.specs.List.{flat_map}
 use Rattle.std.proofs.lemmas.List.Concat.{flat_map-append}
-use Rattle.chorus_entry.specs.declared.act.Act as acts
+use Rattle.law_explore.specs.Races.{Told}
 use Rattle.chorus_entry.specs.declared.entry.Entry.{Entry}
 use Rattle.chorus_merge.specs.Steps.{journals_of}
 use Rattle.chorus_net.specs.declared.closed.Closed.{Closed}
@@ -19,11 +19,11 @@ use Rattle.chorus_explore.specs.declared.race_sites.Progress.{Progress}
 use Rattle.chorus_explore.specs.declared.race_sites.Stage.{Stage}
 use Rattle.explore_report.specs.Facts.{fact_line, outcome_lines}
 use Rattle.explore_report.specs.Outcomes.{message_lines, made_lines}
-use Rattle.chorus_explore.specs.Stages.{IsReached, comes, moves_of, position, posted_lines}
+use Rattle.chorus_explore.specs.Stages.{AreProgress, IsReached, comes, moves_of, position, posted_lines}
 use Rattle.chorus_explore.proofs.Staging.{answers-are, posts-are}
 use Rattle.explore_report.proofs.Telling.{flat-flat, journals_at, port-lines, told-lines}
 
-lines-are : (told : List (List acts.Act)) (ps : List PlaceState) → outcome_lines (outcome_with told ps)
+lines-are : (told : List (List Told)) (ps : List PlaceState) → outcome_lines (outcome_with told ps)
     ≡ flat_map fact_line (answer_facts 1 told) ++ flat_map (message_lines (journals_at ps)) (posts_in told) ++ flat_map (made_lines (placed_in ps)) (journals_at ps)
 lines-are told ps =
     flat_map-append fact_line (answer_facts 1 told ++ message_facts told ps) (port_facts ps)
@@ -31,13 +31,13 @@ lines-are told ps =
     (flat_map-append fact_line (answer_facts 1 told) (message_facts told ps) ∙ ap (λ ys. flat_map fact_line (answer_facts 1 told) ++ ys) (told-lines ps (posts_in told)))
     (port-lines ps)
 
-pub outcome-told : (c : Scene) (s : Stage) (js : List (List Entry)) (ps : List Placed) → IsReached c s → js ≡ journals (net s.sites) → ps ≡ placed (net s.sites)
+pub outcome-told : (c : Scene) (s : Stage) (js : List (List Entry)) (ps : List Placed) → IsReached c s → s.asks ≡ false → js ≡ journals (net s.sites) → ps ≡ placed (net s.sites)
     → flat_map (λ (p : Progress). p.answers.items) s.scripts.items ++ flat_map (posted_lines js) s.scripts.items ++ flat_map (made_lines ps) js ≡ comes c (moves_of s)
-outcome-told c s js ps h journals-are ports-are =
+outcome-told c s js ps h asks journals-are ports-are =
     let p = position c (moves_of s) in
     let ks = journals_at p.net.places in
-    let answers = answers-are 1 c.scripts p.left p.told s.scripts.items h.at.scripts in
-    let posts = posts-are 1 c.scripts p.left p.told s.scripts.items h.at.scripts in
+    let answers = answers-are 1 c.scripts p.left p.told s.scripts.items (subst (λ (by : Bool). AreProgress by 1 c.scripts p.left p.told s.scripts.items) asks h.at.scripts) in
+    let posts = posts-are s.asks 1 c.scripts p.left p.told s.scripts.items h.at.scripts in
     ap₂ (λ js qs. flat_map (λ (p : Progress). p.answers.items) s.scripts.items ++ flat_map (posted_lines js) s.scripts.items ++ flat_map (made_lines qs) js)
     (journals-are ∙ ap journals h.at.net) (ports-are ∙ ap placed h.at.net)
     ∙ ap₂ (λ xs ys. xs ++ ys ++ flat_map (made_lines (placed_in p.net.places)) ks)
@@ -46,11 +46,11 @@ outcome-told c s js ps h journals-are ports-are =
     ∙ sym (lines-are p.told p.net.places)
 
 -- the text, as it is put together from what was closed
-pub outcome-text : (c : Scene) (s : Stage) (closed : Closed) (none one two text : List ℕ) (a b : List Progress) (j k : List (Vec Entry)) (ps : List Placed) → IsReached c s → IsLeft (net s.sites) closed
+pub outcome-text : (c : Scene) (s : Stage) (closed : Closed) (none one two text : List ℕ) (a b : List Progress) (j k : List (Vec Entry)) (ps : List Placed) → IsReached c s → s.asks ≡ false → IsLeft (net s.sites) closed
     → none ≡ [] → one ≡ none ++ flat_map (λ (p : Progress). p.answers.items) a → two ≡ one ++ flat_map (posted_lines (journals_of j)) b
     → text ≡ two ++ flat_map (made_lines ps) (journals_of k) → a ≡ s.scripts.items → b ≡ s.scripts.items → j ≡ closed.journals.items → k ≡ closed.journals.items → ps ≡ closed.ports.items
     → text ≡ comes c (moves_of s)
-outcome-text c s closed none one two text a b j k ps h left nothing first second third is-a is-b is-j is-k is-ps =
+outcome-text c s closed none one two text a b j k ps h asks left nothing first second third is-a is-b is-j is-k is-ps =
     let scripts = s.scripts.items in
     let js = journals_of closed.journals.items in
     let made = flat_map (made_lines ps) (journals_of k) in
@@ -61,4 +61,4 @@ outcome-text c s closed none one two text a b j k ps h left nothing first second
     ∙ ap (λ (xs : List Progress). flat_map (λ (p : Progress). p.answers.items) scripts ++ flat_map (posted_lines (journals_of j)) xs ++ made) is-b
     ∙ ap (λ (xs : List (Vec Entry)). flat_map (λ (p : Progress). p.answers.items) scripts ++ flat_map (posted_lines (journals_of xs)) scripts ++ made) is-j
     ∙ ap₂ (λ (qs : List Placed) (xs : List (Vec Entry)). flat_map (λ (p : Progress). p.answers.items) scripts ++ flat_map (posted_lines js) scripts ++ flat_map (made_lines qs) (journals_of xs)) is-ps is-k
-    ∙ outcome-told c s js closed.ports.items h left.journals left.ports
+    ∙ outcome-told c s js closed.ports.items h asks left.journals left.ports

@@ -1,6 +1,8 @@
+pub mod Settling
 pub mod Staging
 pub mod Racing
 pub mod Going
+pub mod Watching
 pub mod Searching
 pub mod Carrying
 pub mod Explaining
@@ -8,6 +10,7 @@ pub mod Moving
 pub mod Entering
 pub mod Keeping
 pub mod Closing
+pub mod Facts
 pub mod Answering
 pub mod Adding
 pub mod Called
@@ -17,4 +20,7 @@ pub mod Happening
 pub mod Whole
 pub mod Returning
 pub mod Deciding
+pub mod Failing
+pub mod DrawnHistories
+pub mod DrawnClaims
 pub mod AlikeSites

@@ -8,13 +8,12 @@ use Rattle.std.proofs.lemmas.List.Elements.{filter-append}
 use Rattle.chorus_ui.specs.declared.layout.Layout.{Layout}
 use Rattle.chorus_ui.specs.Layout.{has_place}
 use Rattle.chorus_entry.specs.declared.command.Command.{Command}
-use Rattle.law_machine.specs.Own.{own}
 use Rattle.law_network.specs.Packets.{first_on}
 use Rattle.law_network.specs.Network.{NetState, Act, Deliver, happened, numbers, place_numbers, turn_for}
 use Rattle.law_explore.specs.declared.moves.Move.{Move}
 use Rattle.law_explore.specs.declared.moves.Move.TheVariants.{Go, Carry}
-use Rattle.law_explore.specs.Outcome.{Answered, post_in}
-use Rattle.law_explore.specs.Races.{Position, next_of, behind_next, are_linked, event_of, own_by, own_of, with_answer, position_after, is_ready_by, seat_0, may_come, replaying, links_to, links_between}
+use Rattle.law_explore.specs.Outcome.{post_in}
+use Rattle.law_explore.specs.Races.{Position, Told, told_in, next_of, behind_next, are_linked, event_of, own_by, own_of, with_answer, position_after, is_ready_by, seat_0, may_come, replaying, links_to, links_between}
 use Rattle.law_explore.specs.Positions.{next_behind}
 use Rattle.law_explore.specs.Search.{IsHistory}
 use Rattle.law_replay.specs.Shown.{race_of}
@@ -23,7 +22,7 @@ use Rattle.chorus_net.specs.Sites.{net}
 use Rattle.chorus_net.proofs.Rounds.{numbers-more}
 use Rattle.chorus_explore.specs.declared.race_sites.Progress.{Progress}
 use Rattle.chorus_explore.specs.declared.race_sites.Stage.{Stage}
-use Rattle.explore_report.specs.Facts.{fact_line}
+use Rattle.chorus_explore.specs.Tellings.{answered_line}
 use Rattle.chorus_explore.specs.Stages.{AreAt, AreProgress, IsNext, IsOfScript, IsReached, coming, may_go, moves_of, position}
 use Rattle.chorus_explore.proofs.Racing.{CallerAt, caller-at, first-at, position-layout, race-layout}
 use Rattle.chorus_explore.proofs.Staging.{ProgressAt, next-is, next-there, one-more, progress-at, progress-length, progress-set}
@@ -64,22 +63,23 @@ module _ (c : Scene) where
             event = ap (λ x. cond x (Some (Deliver 0 a b)) None) e;
           }
 
-  pub carried : (a b : ℕ) (s t : Stage) → IsReached c s → may_go c (Carry a b) (moves_of s) ≡ true → net t.sites ≡ happened (Deliver 0 a b) (net s.sites) → t.scripts ≡ s.scripts
+  pub carried : (a b : ℕ) (s t : Stage) → IsReached c s → may_go c (Carry a b) (moves_of s) ≡ true → net t.sites ≡ happened (Deliver 0 a b) (net s.sites) → t.scripts ≡ s.scripts → t.asks ≡ s.asks
       → AreAt c (Carry a b ∷ moves_of s) t
-  carried a b s t h may is same =
+  carried a b s t h may is same asks =
       let after : position c (Carry a b ∷ moves_of s) ≡ position_after (Some (Deliver 0 a b)) (Carry a b) (position c (moves_of s)) =
       ap (λ o. position_after o (Carry a b) (position c (moves_of s))) (linked a b (moves_of s) may).event in
       record {
         net = is ∙ ap (happened (Deliver 0 a b)) h.at.net ∙ sym (ap (λ (p : Position). p.net) after);
-        scripts = subst (λ (p : Position). AreProgress 1 c.scripts p.left p.told t.scripts.items) (sym after)
-            (subst (λ v. AreProgress 1 c.scripts (position c (moves_of s)).left (position c (moves_of s)).told v.items) (sym same) h.at.scripts);
+        scripts = subst (λ (by : Bool). AreProgress by 1 c.scripts (position c (Carry a b ∷ moves_of s)).left (position c (Carry a b ∷ moves_of s)).told t.scripts.items) (sym asks)
+            (subst (λ (p : Position). AreProgress s.asks 1 c.scripts p.left p.told t.scripts.items) (sym after)
+            (subst (λ v. AreProgress s.asks 1 c.scripts (position c (moves_of s)).left (position c (moves_of s)).told v.items) (sym same) h.at.scripts));
       }
 
   -- A command.
 
   -- the script that goes, its progress, and its caller
   pub record Goes (i : ℕ) (s : Stage) (d : Command) : Type 0 where
-    pub at : ProgressAt 1 i c.scripts (position c (moves_of s)).left (position c (moves_of s)).told s.scripts.items
+    pub at : ProgressAt s.asks 1 i c.scripts (position c (moves_of s)).left (position c (moves_of s)).told s.scripts.items
     pub next : next_of (Some at.left) ≡ Some d
     pub caller : CallerAt c (moves_of s) i at.script.actor
 
@@ -91,12 +91,12 @@ module _ (c : Scene) where
       by None e k = absurd (cc)
       by (Some left) e k =
           let lt = within (position c (moves_of s)).left i left e in
-          let n = (progress-length 1 c.scripts (position c (moves_of s)).left (position c (moves_of s)).told s.scripts.items h.at.scripts).1 in
+          let n = (progress-length s.asks 1 c.scripts (position c (moves_of s)).left (position c (moves_of s)).told s.scripts.items h.at.scripts).1 in
           omega (arith, lt, n)
 
   pub goes-by : (s : Stage) → IsReached c s → (i : ℕ) (d : Command) → IsNext c (moves_of s) i d → Goes i s d
   goes-by s h i d e =
-      let at = progress-at 1 i c.scripts (position c (moves_of s)).left (position c (moves_of s)).told s.scripts.items h.at.scripts (below-next s h i d e) in
+      let at = progress-at s.asks 1 i c.scripts (position c (moves_of s)).left (position c (moves_of s)).told s.scripts.items h.at.scripts (below-next s h i d e) in
       record { at = at; next = sym (ap next_of at.is_left) ∙ e; caller = caller-at c (moves_of s) h.history i at.script at.is_script }
 
   pub of-script : (s : Stage) → IsReached c s → (i : ℕ) (d : Command) → IsNext c (moves_of s) i d → IsOfScript c i d
@@ -110,32 +110,34 @@ module _ (c : Scene) where
       }
 
   pub performed : (i : ℕ) (s t : Stage) (d : Command) (new : Progress) → IsReached c s → (g : Goes i s d) → net t.sites ≡ happened (Act (suc i) d) (net s.sites) → t.scripts.items ≡ set s.scripts.items i new
+      → t.asks ≡ s.asks → (it : Told) → it ≡ told_in d (turn_for d g.caller.caller (position c (moves_of s)).net)
       → new.next ≡ g.at.p.next + 1
-      → new.answers.items ≡ g.at.p.answers.items ++ fact_line (Answered (1 + i) (g.at.p.next + 1) (own d (turn_for d g.caller.caller (position c (moves_of s)).net)))
-      → new.posts.items ≡ g.at.p.posts.items ++ option_to_list (post_in (own d (turn_for d g.caller.caller (position c (moves_of s)).net)))
+      → new.answers.items ≡ g.at.p.answers.items ++ answered_line s.asks (1 + i) (g.at.p.next + 1) it.act it.settles
+      → new.posts.items ≡ g.at.p.posts.items ++ option_to_list (post_in it.act)
       → AreAt c (Go i ∷ moves_of s) t
-  performed i s t d new h g is scripts next answers posts =
+  performed i s t d new h g is scripts asks it it-is next answers posts =
       let p = position c (moves_of s) in
       let w = g.caller.caller in
-      let a = own d (turn_for d w p.net) in
+      let a = it in
       let event : event_of (race_of c).net.layout seat_0 (Go i) p.left ≡ Some (Act (suc i) d) = ap (λ o. option_map (λ (x : Command). Act (suc i) x) (next_of o)) g.at.is_left ∙ ap (option_map (λ (x : Command). Act (suc i) x)) g.next in
       let after : position c (Go i ∷ moves_of s) ≡ position_after (Some (Act (suc i) d)) (Go i) p = ap (λ o. position_after o (Go i) p) event in
       let left : slice_set p.left i (behind_next (slice_get p.left i)) ≡ slice_set p.left i (behind_next (Some g.at.left)) = ap (λ o. slice_set p.left i (behind_next o)) g.at.is_left in
       let told : slice_set p.told i (with_answer (own_of (Act (suc i) d) p.net) (slice_get p.told i)) ≡ slice_set p.told i (a ∷ g.at.told) =
-      ap₂ (λ o k. slice_set p.told i (with_answer (own_by d p.net o) k)) g.caller.is g.at.is_told in
-      let more = one-more (1 + i) g.at.script.commands g.at.left g.at.told g.at.p new d a g.at.is g.next next answers posts in
-      let all = progress-set 1 i c.scripts p.left p.told s.scripts.items g.at.script (behind_next (Some g.at.left)) (a ∷ g.at.told) new h.at.scripts g.at.is_script more in
+      ap₂ (λ o k. slice_set p.told i (with_answer (own_by d p.net o) k)) g.caller.is g.at.is_told ∙ ap (λ (x : Told). slice_set p.told i (x ∷ g.at.told)) (sym it-is) in
+      let more = one-more s.asks (1 + i) g.at.script.commands g.at.left g.at.told g.at.p new d a g.at.is g.next next answers posts in
+      let all = progress-set s.asks 1 i c.scripts p.left p.told s.scripts.items g.at.script (behind_next (Some g.at.left)) (a ∷ g.at.told) new h.at.scripts g.at.is_script more in
       record {
         net = is ∙ ap (happened (Act (suc i) d)) h.at.net ∙ sym (ap (λ (q : Position). q.net) after);
-        scripts = subst (λ (q : Position). AreProgress 1 c.scripts q.left q.told t.scripts.items) (sym after)
-            (subst (λ ps. AreProgress 1 c.scripts (slice_set p.left i (behind_next (slice_get p.left i))) (slice_set p.told i (with_answer (own_of (Act (suc i) d) p.net) (slice_get p.told i))) ps) (sym scripts)
-            (subst (λ xs. AreProgress 1 c.scripts xs (slice_set p.told i (with_answer (own_of (Act (suc i) d) p.net) (slice_get p.told i))) (set s.scripts.items i new)) (sym left)
-            (subst (λ xs. AreProgress 1 c.scripts (slice_set p.left i (behind_next (Some g.at.left))) xs (set s.scripts.items i new)) (sym told) all)));
+        scripts = subst (λ (by : Bool). AreProgress by 1 c.scripts (position c (Go i ∷ moves_of s)).left (position c (Go i ∷ moves_of s)).told t.scripts.items) (sym asks)
+            (subst (λ (q : Position). AreProgress s.asks 1 c.scripts q.left q.told t.scripts.items) (sym after)
+            (subst (λ ps. AreProgress s.asks 1 c.scripts (slice_set p.left i (behind_next (slice_get p.left i))) (slice_set p.told i (with_answer (own_of (Act (suc i) d) p.net) (slice_get p.told i))) ps) (sym scripts)
+            (subst (λ xs. AreProgress s.asks 1 c.scripts xs (slice_set p.told i (with_answer (own_of (Act (suc i) d) p.net) (slice_get p.told i))) (set s.scripts.items i new)) (sym left)
+            (subst (λ xs. AreProgress s.asks 1 c.scripts (slice_set p.left i (behind_next (Some g.at.left))) xs (set s.scripts.items i new)) (sym told) all))));
       }
 
   -- Which of them may come.
 
-  pub script-comes : (s : Stage) → IsReached c s → (i : ℕ) → (at : ProgressAt 1 i c.scripts (position c (moves_of s)).left (position c (moves_of s)).told s.scripts.items)
+  pub script-comes : (s : Stage) → IsReached c s → (i : ℕ) → (at : ProgressAt s.asks 1 i c.scripts (position c (moves_of s)).left (position c (moves_of s)).told s.scripts.items)
       → may_come (race_of c).net.layout (Go i) (position c (moves_of s)) ≡ is_some (slice_get at.script.commands at.p.next)
   script-comes s h i at =
       let p = position c (moves_of s) in
@@ -190,12 +192,12 @@ module _ (c : Scene) where
   pub left-is : (s : Stage) → IsReached c s → (i : ℕ) (script : Script) (p : Progress) → slice_get c.scripts i ≡ Some script → slice_get s.scripts.items i ≡ Some p
       → next_of (slice_get (position c (moves_of s)).left i) ≡ slice_get script.commands p.next
   left-is s h i script p e f =
-      let at = progress-at 1 i c.scripts (position c (moves_of s)).left (position c (moves_of s)).told s.scripts.items h.at.scripts (within c.scripts i script e) in
+      let at = progress-at s.asks 1 i c.scripts (position c (moves_of s)).left (position c (moves_of s)).told s.scripts.items h.at.scripts (within c.scripts i script e) in
       ap next_of at.is_left ∙ ap (λ cs. next_of (Some cs)) at.is.rest ∙ next-there at.p.next at.script.commands
       ∙ ap₂ (λ (q : Script) (x : Progress). slice_get q.commands x.next) (some-same at.script script (sym at.is_script ∙ e)) (some-same at.p p (sym at.is_p ∙ f))
 
   pub as-many : (s : Stage) → IsReached c s → length s.scripts.items ≡ length c.scripts
-  as-many s h = (progress-length 1 c.scripts (position c (moves_of s)).left (position c (moves_of s)).told s.scripts.items h.at.scripts).0
+  as-many s h = (progress-length s.asks 1 c.scripts (position c (moves_of s)).left (position c (moves_of s)).told s.scripts.items h.at.scripts).0
 
   -- a script goes where a command is left of it
   pub next-may : (s : Stage) → IsReached c s → (i : ℕ) (d : Command) → IsNext c (moves_of s) i d → may_go c (Go i) (moves_of s) ≡ true
@@ -218,14 +220,15 @@ module _ (c : Scene) where
       by (Some d) e = below-next s h i d e
 
   -- what nobody sees may change
-  pub same-reached : (s t : Stage) → IsReached c s → net t.sites ≡ net s.sites → t.scripts ≡ s.scripts → t.moves ≡ s.moves → IsReached c t
-  same-reached s t h same scripts moves =
+  pub same-reached : (s t : Stage) → IsReached c s → net t.sites ≡ net s.sites → t.scripts ≡ s.scripts → t.moves ≡ s.moves → t.asks ≡ s.asks → IsReached c t
+  same-reached s t h same scripts moves asks =
       let path : moves_of s ≡ moves_of t = ap (λ v. reverse v.items) (sym moves) in
       record {
         at = record {
           net = same ∙ h.at.net ∙ ap (λ ms. (position c ms).net) path;
-          scripts = subst (λ v. AreProgress 1 c.scripts (position c (moves_of t)).left (position c (moves_of t)).told v.items) (sym scripts)
-              (subst (λ ms. AreProgress 1 c.scripts (position c ms).left (position c ms).told s.scripts.items) path h.at.scripts);
+          scripts = subst (λ (by : Bool). AreProgress by 1 c.scripts (position c (moves_of t)).left (position c (moves_of t)).told t.scripts.items) (sym asks)
+              (subst (λ v. AreProgress s.asks 1 c.scripts (position c (moves_of t)).left (position c (moves_of t)).told v.items) (sym scripts)
+              (subst (λ ms. AreProgress s.asks 1 c.scripts (position c ms).left (position c ms).told s.scripts.items) path h.at.scripts));
         };
         history = subst (IsHistory (replaying (race_of c))) path h.history;
       }
@@ -302,7 +305,7 @@ pub all-come : (c : Scene) (s : Stage) → IsReached c s → (xs new : List Move
 all-come c s h xs new e f =
     let p = position c (moves_of s) in
     let ms = moves_of s in
-    let long = (progress-length 1 c.scripts p.left p.told s.scripts.items h.at.scripts).1 in
+    let long = (progress-length s.asks 1 c.scripts p.left p.told s.scripts.items h.at.scripts).1 in
     f ∙ ap (λ zs. zs ++ coming c ms (links_between (place_numbers c.layout) (place_numbers c.layout))) e
     ∙ sym (coming-append c ms (map Go (numbers (length c.scripts) 0)) (links_between (place_numbers c.layout) (place_numbers c.layout)))
     ∙ ap₂ (λ (n : ℕ) (l : Layout). coming c ms (map Go (numbers n 0) ++ links_between (place_numbers l) (place_numbers l))) (sym long) (sym (race-layout c))

@@ -1,11 +1,11 @@
 -- Each replay of a scenario closes what a whole history of its race comes to: what it delivers in vain is left out, and all else are moves.
 -- c is a scenario, es and fs are events, ts and us tasks, ms are moves, all with the latest first; i is the place of a script, k a seat, d
 -- a command.
-use Rattle.std.proofs.Common.{ℕ, zero, suc, ◌≡◌, ◌+◌, ◌≤◌, ◌==◌, nat_le, nat_lt, Bool, true, false, ◌&&◌, not, cond, List, [], ◌∷◌, ◌++◌, length, map, drop, reverse, count_by, Option, Some, None, is_some, slice_get, option_to_list, refl, sym, ◌∙◌, ap, subst, arith, append_assoc}
+use Rattle.std.proofs.Common.{ℕ, zero, suc, ◌≡◌, ◌+◌, ◌≤◌, ◌==◌, nat_le, nat_lt, Bool, true, false, ◌&&◌, not, cond, List, [], ◌∷◌, ◌++◌, length, map, drop, reverse, count_by, Option, Some, None, is_some, slice_get, option_to_list, refl, sym, ◌∙◌, ap, ap₂, subst, arith, append_assoc}
 use Rattle.std.specs.List.{All, Contains}
 use Rattle.std.specs.Option.{option_map}
 use Rattle.std.proofs.lemmas.Bool.{and_parts, and_from, eq-eqb, false≢true, leb-true}
-use Rattle.std.proofs.lemmas.List.{append-nil, length-append, length-reverse, reverse-append, reverse-reverse, nil_from_length}
+use Rattle.std.proofs.lemmas.List.{append-nil, length-append, length-reverse, map-append, reverse-append, reverse-reverse, nil_from_length}
 use Rattle.std.proofs.lemmas.List.Elements.{All-nil, All-cons, All-head, All-tail, All-append, All-weaker}
 use Rattle.std.proofs.lemmas.Option.{slice_get-map}
 use Rattle.chorus_ui.specs.declared.layout.Layout.{Layout}
@@ -45,7 +45,7 @@ use Rattle.chorus_replay.proofs.Given.{commands-given, commands-none}
 use Rattle.chorus_replay.proofs.Plays.{deliveries}
 use Rattle.chorus_explore.specs.Shown.{ReplaysAreWhole}
 use Rattle.chorus_explore.specs.Stages.{position}
-use Rattle.chorus_explore.proofs.Happening.{events, left-none, left-of}
+use Rattle.chorus_explore.proofs.Happening.{events, left-none, left-of, net-is}
 use Rattle.chorus_explore.proofs.Racing.{base, caller-at, first-at, map-reverse, position-layout, race-layout}
 
 -- Tasks that are done where the race has begun: commands of scripts, and what seat 0 delivers.
@@ -168,9 +168,11 @@ module _ (c : Scene) where
   abbrev given-by : ℕ → List Event → List Command
   given-by i fs = commands_of (suc i) (fs ++ reverse (base c))
 
-  -- a history comes to the same, and its events give the same
-  record Reached (fs : List Event) : Type 0 where
+  -- a history that goes on from these moves comes to the same, and its events give the same
+  pub record Reached (from : List Move) (fs : List Event) : Type 0 where
     pub moves : List Move
+    pub more : List Move
+    pub goes_on : moves ≡ more ++ from
     pub history : IsHistory (replaying (race_of c)) moves
     pub net : (position c moves).net ≡ at fs
     pub gave : (i : ℕ) → commands_of (suc i) (events c moves) ≡ given-by i fs
@@ -197,15 +199,17 @@ module _ (c : Scene) where
 
   -- A delivery is a move where it finds a packet.
 
-  delivered-one : (a b : ℕ) (fs : List Event) → may_happen (Deliver 0 a b) (at fs) ≡ true → Reached fs → (q : Bool) → is_some (first_on a b (at fs).packets) ≡ q → Reached (Deliver 0 a b ∷ fs)
-  delivered-one a b fs may w false e = record {
+  delivered-one : (from : List Move) (a b : ℕ) (fs : List Event) → may_happen (Deliver 0 a b) (at fs) ≡ true → Reached from fs → (q : Bool) → is_some (first_on a b (at fs).packets) ≡ q → Reached from (Deliver 0 a b ∷ fs)
+  delivered-one from a b fs may w false e = record {
     moves = w.moves;
+    more = w.more;
+    goes_on = w.goes_on;
     history = w.history;
     net = w.net
         ∙ sym (idle-event (Deliver 0 a b) (at fs) (ap (λ (q : Bool). one_if (is_some (slice_get (at fs).callers 0) && q)) e ∙ never (is_some (slice_get (at fs).callers 0))));
     gave = w.gave;
   }
-  delivered-one a b fs may w true e =
+  delivered-one from a b fs may w true e =
       let n = at fs in
       let s = position c w.moves in
       let l = (race_of c).net.layout in
@@ -214,14 +218,16 @@ module _ (c : Scene) where
       let two = and_parts (some && has_place n.layout a) (has_place n.layout b) three.0 in
       let one = and_parts some (has_place n.layout a) two.0 in
       let layout : (at fs).layout ≡ (race_of c).net.layout = ap (λ (z : NetState). z.layout) (sym w.net) ∙ position-layout c w.moves w.history ∙ sym (race-layout c) in
-      let from = ap (λ (x : Layout). has_place x a) (sym layout) ∙ one.1 in
-      let to = ap (λ (x : Layout). has_place x b) (sym layout) ∙ two.1 in
-      let linked : are_linked (race_of c).net.layout a b ≡ true = and_from (has_place l a && has_place l b) (not (a == b)) (and_from (has_place l a) (has_place l b) from to) three.1 in
+      let has-a = ap (λ (x : Layout). has_place x a) (sym layout) ∙ one.1 in
+      let has-b = ap (λ (x : Layout). has_place x b) (sym layout) ∙ two.1 in
+      let linked : are_linked (race_of c).net.layout a b ≡ true = and_from (has_place l a && has_place l b) (not (a == b)) (and_from (has_place l a) (has_place l b) has-a has-b) three.1 in
       let event : event_of (race_of c).net.layout seat_0 (Carry a b) (position c w.moves).left ≡ Some (Deliver 0 a b) = ap (λ (q : Bool). cond q (Some (Deliver 0 a b)) None) linked in
       let ready : is_ready (Deliver 0 a b) (position c w.moves).net ≡ true =
       and_from (is_some (slice_get s.net.callers 0)) (is_some (first_on a b s.net.packets)) (first-at c w.moves w.history) (ap (λ (z : NetState). is_some (first_on a b z.packets)) w.net ∙ e) in
       record {
         moves = Carry a b ∷ w.moves;
+        more = Carry a b ∷ w.more;
+        goes_on = ap (λ ms. Carry a b ∷ ms) w.goes_on;
         history = (ap (λ o. is_ready_by o s.net) event ∙ ready, w.history);
         net = ap (λ o. (position_after o (Carry a b) s).net) event ∙ ap (happened (Deliver 0 a b)) w.net;
         gave = λ i. ap (λ o. commands_of (suc i) ((option_to_list o ++ events_of (race_of c) w.moves) ++ reverse (base c))) event ∙ w.gave i;
@@ -229,9 +235,9 @@ module _ (c : Scene) where
 
   -- A command is the next one of its script.
 
-  acted-one : (i : ℕ) (d : Command) (fs : List Event) → Gives (Act (suc i) d ∷ fs) → Reached fs → (o : Option Script) → slice_get c.scripts i ≡ o → Reached (Act (suc i) d ∷ fs)
-  acted-one i d fs gives w None there = absurd (let e = sym (own-given i d fs) ∙ gives.none i there in cc)
-  acted-one i d fs gives w (Some script) there =
+  acted-one : (from : List Move) (i : ℕ) (d : Command) (fs : List Event) → Gives (Act (suc i) d ∷ fs) → Reached from fs → (o : Option Script) → slice_get c.scripts i ≡ o → Reached from (Act (suc i) d ∷ fs)
+  acted-one from i d fs gives w None there = absurd (let e = sym (own-given i d fs) ∙ gives.none i there in cc)
+  acted-one from i d fs gives w (Some script) there =
       let s = position c w.moves in
       let cs = given-by i fs in
       let given = gives.some i script there in
@@ -245,26 +251,36 @@ module _ (c : Scene) where
       let caller = caller-at c w.moves w.history i script there in
       record {
         moves = Go i ∷ w.moves;
+        more = Go i ∷ w.more;
+        goes_on = ap (λ ms. Go i ∷ ms) w.goes_on;
         history = (ap (λ o. is_ready_by o s.net) event ∙ ap (λ o. is_some o && true) caller.is, w.history);
         net = ap (λ o. (position_after o (Go i) s).net) event ∙ ap (happened (Act (suc i) d)) w.net;
         gave = λ j.
             ap (λ o. commands_of (suc j) ((option_to_list o ++ events_of (race_of c) w.moves) ++ reverse (base c))) event ∙ ap (command_in (suc j) (Act (suc i) d)) (w.gave j);
       }
 
-  one-more : (e : Event) (fs : List Event) → may_happen e (at fs) ≡ true → IsRacing e → Gives (e ∷ fs) → Reached fs → Reached (e ∷ fs)
-  one-more (Enter actor last) fs may racing gives w = absurd racing
-  one-more (See seat clock) fs may racing gives w = absurd racing
-  one-more (Act zero d) fs may racing gives w = absurd (omega (arith, racing))
-  one-more (Act (suc i) d) fs may racing gives w = acted-one i d fs gives w (slice_get c.scripts i) refl
-  one-more (Deliver k a b) fs may racing gives w =
-      subst (λ (j : ℕ). Reached (Deliver j a b ∷ fs)) (sym racing)
-      (delivered-one a b fs (subst (λ (j : ℕ). may_happen (Deliver j a b) (at fs) ≡ true) racing may) w (is_some (first_on a b (at fs).packets)) refl)
+  one-more : (from : List Move) (e : Event) (fs : List Event) → may_happen e (at fs) ≡ true → IsRacing e → Gives (e ∷ fs) → Reached from fs → Reached from (e ∷ fs)
+  one-more from (Enter actor last) fs may racing gives w = absurd racing
+  one-more from (See seat clock) fs may racing gives w = absurd racing
+  one-more from (Act zero d) fs may racing gives w = absurd (omega (arith, racing))
+  one-more from (Act (suc i) d) fs may racing gives w = acted-one from i d fs gives w (slice_get c.scripts i) refl
+  one-more from (Deliver k a b) fs may racing gives w =
+      subst (λ (j : ℕ). Reached from (Deliver j a b ∷ fs)) (sym racing)
+      (delivered-one from a b fs (subst (λ (j : ℕ). may_happen (Deliver j a b) (at fs) ≡ true) racing may) w (is_some (first_on a b (at fs).packets)) refl)
 
-  reached : (fs : List Event) → may_be c.layout (fs ++ reverse (base c)) ≡ true → All IsRacing fs → Gives fs → Reached fs
-  reached [] may racing gives = record { moves = []; history = tt; net = refl; gave = λ i. refl }
-  reached (e ∷ fs) may racing gives =
-      let two = and_parts (may_happen e (at fs)) (may_be c.layout (fs ++ reverse (base c))) may in
-      one-more e fs two.0 (All-head IsRacing e fs racing) gives (reached fs two.1 (All-tail IsRacing e fs racing) (gives-less e fs gives))
+  reached : (from : List Move) (start fs : List Event) → Reached from start → may_be c.layout ((fs ++ start) ++ reverse (base c)) ≡ true → All IsRacing fs → Gives (fs ++ start) → Reached from (fs ++ start)
+  reached from start [] w may racing gives = w
+  reached from start (e ∷ fs) w may racing gives =
+      let two = and_parts (may_happen e (at (fs ++ start))) (may_be c.layout ((fs ++ start) ++ reverse (base c))) may in
+      one-more from e (fs ++ start) two.0 (All-head IsRacing e fs racing) gives (reached from start fs w two.1 (All-tail IsRacing e fs racing) (gives-less e (fs ++ start) gives))
+
+  -- no event, and no move
+  none-reached : Reached [] []
+  none-reached = record { moves = []; more = []; goes_on = refl; history = tt; net = refl; gave = λ i. refl }
+
+  -- the events of a history lead where it leads
+  pub history-reached : (ms : List Move) → IsHistory (replaying (race_of c)) ms → Reached ms (events_of (race_of c) ms)
+  history-reached ms h = record { moves = ms; more = []; goes_on = refl; history = h; net = sym (net-is c ms); gave = λ i. refl }
 
   -- Where all commands were given and no packet is left, nothing may come.
 
@@ -357,21 +373,66 @@ module _ (c : Scene) (shape : IsLayout c.layout) (keeps : Keeps c) where
       none = λ i there. ap (commands_of (suc i)) (sym is) ∙ carried-commands c.layout (suc i) (tasks c) es out ∙ commands-none c keeps i there;
     }
 
-  pub comes-whole : (status : Status) (closed : Closed) → IsOrdered c.layout (tasks c) status closed → worn_clock status ≡ None
-      → (ms : List Move) × (IsWhole (race_of c) ms × IsClosed (position c ms).net closed)
-  comes-whole status closed ordered unworn =
+  -- a whole history that goes on from these moves, to whose network the replay closes
+  pub record GoesOn (from : List Move) (closed : Closed) : Type 0 where
+    pub moves : List Move
+    pub more : List Move
+    pub goes_on : moves ≡ more ++ from
+    pub whole : IsWhole (race_of c) moves
+    pub closes : IsClosed (position c moves).net closed
+
+  goes-on : (from : List Move) (start newer : List Event) → Reached c from start → All IsRacing newer → (status : Status) (closed : Closed) → (ordered : IsOrdered c.layout (tasks c) status closed)
+      → worn_clock status ≡ None → ordered.events ≡ (newer ++ start) ++ reverse (base c) → GoesOn from closed
+  goes-on from start newer first racing status closed ordered unworn is =
       let l = c.layout in
       let es = ordered.events in
       let out = not-worn status l (tasks c) es unworn ordered.carried in
-      let split = splits l (reverse behind-base) (map Do (reverse (base c))) es turns (subst (λ (ts : List Task). CarryOut c.layout ts ordered.events) tasks-are out) in
-      let is : ordered.events ≡ split.newer ++ reverse (base c) = split.is ∙ ap (λ xs. split.newer ++ xs) (carried-is l (reverse (base c)) split.older split.carried) in
-      let w = reached c split.newer (subst (λ xs. may_be c.layout xs ≡ true) is ordered.may) split.racing (gives-all es out split.newer is) in
+      let w = reached c from start newer first (subst (λ xs. may_be c.layout xs ≡ true) is ordered.may) racing (gives-all es out (newer ++ start) is) in
       let net : (position c w.moves).net ≡ schedule c.layout ordered.events = w.net ∙ ap (schedule c.layout) (sym is) in
       let last = subst (λ (ts : List Task). CarryOut c.layout ts ordered.events) tasks-last out in
       let who : is_some (slice_get (schedule c.layout ordered.events).callers 0) ≡ true = ap (λ (z : NetState). is_some (slice_get z.callers 0)) (sym net) ∙ first-at c w.moves w.history in
       let empty : (position c w.moves).net.packets ≡ [] = ap (λ (z : NetState). z.packets) net ∙ drains-leave-nothing l 0 last.0 es shape ordered.may who last.1.0 in
       let whole = none-next c w.moves w.history empty (λ i script there. w.gave i ∙ ap (commands_of (suc i)) (sym is) ∙ all-given es out i script there) in
-      (w.moves, ((w.history, whole), subst (λ (n : NetState). IsClosed n closed) (sym net) ordered.closes))
+      record {
+        moves = w.moves;
+        more = w.more;
+        goes_on = w.goes_on;
+        whole = (w.history, whole);
+        closes = subst (λ (n : NetState). IsClosed n closed) (sym net) ordered.closes;
+      }
+
+  comes-whole : (status : Status) (closed : Closed) → IsOrdered c.layout (tasks c) status closed → worn_clock status ≡ None → GoesOn [] closed
+  comes-whole status closed ordered unworn =
+      let l = c.layout in
+      let es = ordered.events in
+      let out = not-worn status l (tasks c) es unworn ordered.carried in
+      let split = splits l (reverse behind-base) (map Do (reverse (base c))) es turns (subst (λ (ts : List Task). CarryOut c.layout ts ordered.events) tasks-are out) in
+      goes-on [] [] split.newer (none-reached c) split.racing status closed ordered unworn
+      (split.is ∙ ap₂ (λ xs ys. xs ++ ys) (sym (append-nil split.newer)) (carried-is l (reverse (base c)) split.older split.carried))
+
+  -- where the schedule is one of moves, it goes on from them
+  turns-left : All IsTurn (reverse (two ++ Drain 0 ∷ []))
+  turns-left =
+      All-reverse IsTurn (two ++ Drain 0 ∷ [])
+      (All-append IsTurn two (Drain 0 ∷ []) (in-left c.schedule 1 (omega arith) c.scripts) (All-cons IsTurn (Drain 0) [] refl (All-nil IsTurn)))
+
+  pub comes-behind : (ms : List Move) → IsHistory (replaying (race_of c)) ms → in_schedule c.scripts [] c.schedule ≡ map Do (reverse (events_of (race_of c) ms))
+      → (status : Status) (closed : Closed) → IsOrdered c.layout (tasks c) status closed → worn_clock status ≡ None → GoesOn ms closed
+  comes-behind ms h steps status closed ordered unworn =
+      let l = c.layout in
+      let es = ordered.events in
+      let start = events_of (race_of c) ms in
+      let rest = two ++ Drain 0 ∷ [] in
+      let out = not-worn status l (tasks c) es unworn ordered.carried in
+      let were : reverse one ≡ map Do (events_of (race_of c) ms) = ap reverse steps ∙ sym (map-reverse Do (reverse start)) ∙ ap (map Do) (reverse-reverse start) in
+      let all : tasks c ≡ reverse (two ++ Drain 0 ∷ []) ++ map Do (events_of (race_of c) ms ++ reverse (base c)) =
+      tasks-are ∙ ap (λ (ts : List Task). ts ++ map Do (reverse (base c))) (reverse-append one rest ∙ ap (λ (ts : List Task). reverse (two ++ Drain 0 ∷ []) ++ ts) were)
+      ∙ append_assoc (reverse rest) (map Do start) (map Do (reverse (base c))) ∙ ap (λ (ts : List Task). reverse (two ++ Drain 0 ∷ []) ++ ts) (sym (map-append Do start (reverse (base c)))) in
+      let split = splits l (reverse rest) (map Do (start ++ reverse (base c))) es turns-left (subst (λ (ts : List Task). CarryOut c.layout ts ordered.events) all out) in
+      goes-on ms start split.newer (history-reached c ms h) split.racing status closed ordered unworn
+      (split.is ∙ ap (λ xs. split.newer ++ xs) (carried-is l (start ++ reverse (base c)) split.older split.carried) ∙ sym (append_assoc split.newer start (reverse (base c))))
 
 pub replays-are-whole : ReplaysAreWhole
-replays-are-whole c lines status closed shape keeps ordered unworn = comes-whole (record c { schedule = lines }) shape keeps status closed ordered unworn
+replays-are-whole c lines status closed shape keeps ordered unworn =
+    let w = comes-whole (record c { schedule = lines }) shape keeps status closed ordered unworn in
+    (w.moves, (w.whole, w.closes))

@@ -1,7 +1,7 @@
 -- What the search keeps, as histories are come to, and as a level is gone on from.
 -- c is a scenario, asked is what is asked of the search, n a number of moves, s is the search before, t behind it; e is what
 -- it came to, m are the histories of a class, hs and pending are histories.
-use Rattle.std.proofs.Common.{ℕ, zero, suc, min, ◌≡◌, ◌+◌, ◌-◌, ◌^◌, ◌<◌, ◌≤◌, ◌==◌, Bool, true, false, cond, List, [], ◌∷◌, ◌++◌, length, map, take, reverse, get_or, set, sum_by, Some, slice_get, ◌⊎◌, inl, inr, refl, sym, ◌∙◌, ap, subst, arith, append_assoc}
+use Rattle.std.proofs.Common.{ℕ, zero, suc, min, ◌≡◌, ◌+◌, ◌-◌, ◌^◌, ◌<◌, ◌≤◌, ◌==◌, Bool, true, false, not, cond, List, [], ◌∷◌, ◌++◌, length, map, take, reverse, get_or, set, sum_by, Some, slice_get, ◌⊎◌, inl, inr, refl, sym, ◌∙◌, ap, subst, arith, append_assoc}
 use Rattle.std.specs.List.{All, Contains, flat_map}
 use Rattle.std.proofs.lemmas.Bool.{eq-eqb, eqb-true, false≢true}
 use Rattle.std.proofs.lemmas.List.{append-nil, length-append, length-map, nil_from_length}
@@ -19,6 +19,7 @@ use Rattle.law_explore.proofs.Histories.{no-other}
 use Rattle.law_explore.proofs.Found.{front-once, levels-of-merged-find-all}
 use Rattle.law_explore.proofs.Members.{levels-of-merged-go-on}
 use Rattle.law_explore.proofs.Merging.{places-tell-the-same, told-alike-is-an-equivalence}
+use Rattle.law_explore.proofs.Moments.{nets-tell-the-same}
 use Rattle.law_explore.proofs.Searching.{none, here, there, which}
 use Rattle.law_replay.specs.Shown.{race_of}
 use Rattle.chorus_scene.specs.Scene.{Scene}
@@ -30,11 +31,12 @@ use Rattle.chorus_explore.specs.declared.level_search.Asked.{Asked}
 use Rattle.chorus_explore.specs.declared.level_search.Class.{Class}
 use Rattle.chorus_explore.specs.declared.level_search.Search.{Search}
 use Rattle.chorus_explore.specs.Classes.{AreClasses, StandFor, StandsFor, shown_by}
-use Rattle.chorus_explore.specs.Searches.{HasFound, IsCut, IsEnough, IsLong, IsOver, IsWithin, Come, LeavesOut}
-use Rattle.chorus_explore.specs.Stages.{comes, position}
+use Rattle.chorus_explore.specs.Searches.{HasFound, IsCut, IsEnough, IsLong, IsOver, IsWatching, IsWithin, Come, LeavesOut, asks_of}
+use Rattle.chorus_explore.specs.Stages.{comes, facts_at, position}
 use Rattle.chorus_explore.specs.Tellings.{tells_of}
-use Rattle.chorus_explore.proofs.Alike.{comes-the-same, tells-on}
+use Rattle.chorus_explore.proofs.Alike.{comes-the-same, facts-the-same, tells-on}
 use Rattle.chorus_explore.proofs.Racing.{is-race}
+use Rattle.chorus_explore.proofs.Watching.{begins, came-too, go-on, rise, see-again}
 
 pub some-is : {X : Type 0} (x y : X) → Some x ≡ Some y → x ≡ y
 some-is x y e = cc
@@ -65,12 +67,12 @@ told-both a b x y z e f g = grind (arith, e, f, g)
 
 -- Classes and the histories for which they stand.
 
-stand-push : (r : Race) (n : ℕ) (classes : List Class) (ms : List Merged) (class : Class) (m : Merged) → StandFor r n classes ms → StandsFor r n (shown_by class) class.number m
-    → StandFor r n (classes ++ class ∷ []) (ms ++ m ∷ [])
-stand-push r n [] [] class m h is = (is, tt)
-stand-push r n [] (x ∷ ms) class m h is = absurd h
-stand-push r n (k ∷ classes) [] class m h is = absurd h
-stand-push r n (k ∷ classes) (x ∷ ms) class m h is = (h.0, stand-push r n classes ms class m h.1 is)
+stand-push : (asks : Bool) (r : Race) (n : ℕ) (classes : List Class) (ms : List Merged) (class : Class) (m : Merged) → StandFor asks r n classes ms → StandsFor asks r n (shown_by class) class.number m
+    → StandFor asks r n (classes ++ class ∷ []) (ms ++ m ∷ [])
+stand-push asks r n [] [] class m h is = (is, tt)
+stand-push asks r n [] (x ∷ ms) class m h is = absurd h
+stand-push asks r n (k ∷ classes) [] class m h is = absurd h
+stand-push asks r n (k ∷ classes) (x ∷ ms) class m h is = (h.0, stand-push asks r n classes ms class m h.1 is)
 
 -- the histories of the class that stands there, with more histories that come to the same
 abbrev pub joined : ℕ → Merged → List Merged → List Merged
@@ -119,50 +121,59 @@ apart (x ∷ xs) ys once h i j = by (which h x xs i) (apart xs ys once.1 h)
 members-long : (d m : Merged) → length (d.members ++ m.members) ≡ length d.members + length m.members
 members-long d m = length-append d.members m.members
 
-module _ (c : Scene) where
+module _ (asks : Bool) (c : Scene) where
   abbrev r : Race
   r = race_of c
 
-  stands-joined : (n : ℕ) (ms os : List Move) (one other new : ℕ) (d m : Merged) → StandsFor (race_of c) n ms one d → StandsFor (race_of c) n os other m
-      → ComeToldAlike tells_of (race_of c) ms os → new ≡ min (one + other) (2 ^ 64 - 1)
-      → StandsFor (race_of c) n ms new (record { shows = d.shows; members = d.members ++ m.members })
+  stands-joined : (n : ℕ) (ms os : List Move) (one other new : ℕ) (d m : Merged) → StandsFor asks (race_of c) n ms one d → StandsFor asks (race_of c) n os other m
+      → ComeToldAlike (tells_of asks) (race_of c) ms os → new ≡ min (one + other) (2 ^ 64 - 1)
+      → StandsFor asks (race_of c) n ms new (record { shows = d.shows; members = d.members ++ m.members })
   stands-joined n ms os one other new d m h f alike e =
       record {
         shows = h.shows;
-        merged = (levels-of-merged-go-on tells_of r tells-on (is-race c)).0.join n m d f.merged h.merged
-            (subst (λ k. ComeToldAlike tells_of (race_of c) d.shows k) (sym f.shows) (subst (λ k. ComeToldAlike tells_of (race_of c) k os) (sym h.shows) alike));
+        merged = (levels-of-merged-go-on (tells_of asks) r (tells-on asks) (is-race c)).0.join n m d f.merged h.merged
+            (subst (λ k. ComeToldAlike (tells_of asks) (race_of c) d.shows k) (sym f.shows) (subst (λ k. ComeToldAlike (tells_of asks) (race_of c) k os) (sym h.shows) alike));
         among = Contains-append_left d.members m.members d.shows h.among;
         number = told-both (length d.members) (length m.members) one other new h.number f.number e ∙ ap told_number (sym (members-long d m));
       }
 
-  stand-joined : (n k : ℕ) (classes : List Class) (ds : List Merged) (old new : Class) (os : List Move) (other : ℕ) (m : Merged) → StandFor (race_of c) n classes ds
-      → slice_get classes k ≡ Some old → new.moves ≡ old.moves → new.number ≡ min (old.number + other) (2 ^ 64 - 1) → StandsFor (race_of c) n os other m
-      → ComeToldAlike tells_of (race_of c) (shown_by old) os → StandFor (race_of c) n (set classes k new) (joined k m ds) × (k < length ds)
+  stand-joined : (n k : ℕ) (classes : List Class) (ds : List Merged) (old new : Class) (os : List Move) (other : ℕ) (m : Merged) → StandFor asks (race_of c) n classes ds
+      → slice_get classes k ≡ Some old → new.moves ≡ old.moves → new.number ≡ min (old.number + other) (2 ^ 64 - 1) → StandsFor asks (race_of c) n os other m
+      → ComeToldAlike (tells_of asks) (race_of c) (shown_by old) os → StandFor asks (race_of c) n (set classes k new) (joined k m ds) × (k < length ds)
   stand-joined n k [] ds old new os other m h at moves number is alike = absurd (cc)
   stand-joined n k (x ∷ classes) [] old new os other m h at moves number is alike = absurd h
   stand-joined n zero (x ∷ classes) (d ∷ ds) old new os other m h at moves number is alike =
       let same : x ≡ old = cc in
-      let one : StandsFor (race_of c) n (shown_by old) old.number d = subst (λ (k : Class). StandsFor (race_of c) n (shown_by k) k.number d) same h.0 in
+      let one : StandsFor asks (race_of c) n (shown_by old) old.number d = subst (λ (k : Class). StandsFor asks (race_of c) n (shown_by k) k.number d) same h.0 in
       let joint = stands-joined n (shown_by old) os old.number other new.number d m one is alike number in
-      ((subst (λ v. StandsFor (race_of c) n (reverse v.items) new.number (record { shows = d.shows; members = d.members ++ m.members })) (sym moves) joint, h.1), omega arith)
+      ((subst (λ v. StandsFor asks (race_of c) n (reverse v.items) new.number (record { shows = d.shows; members = d.members ++ m.members })) (sym moves) joint, h.1), omega arith)
   stand-joined n (suc k) (x ∷ classes) (d ∷ ds) old new os other m h at moves number is alike =
       let rest = stand-joined n k classes ds old new os other m h.1 at moves number is alike in
       ((h.0, rest.0), (let lt = rest.1 in omega (arith, lt)))
 
   -- each history of a class that shows an end is whole, and comes to the same
-  module _ (n : ℕ) (ms : List Move) (number : ℕ) (m : Merged) (is : StandsFor (race_of c) n ms number m) where
+  module _ (n : ℕ) (ms : List Move) (number : ℕ) (m : Merged) (is : StandsFor asks (race_of c) n ms number m) where
     members-whole : next_behind (race_of c) ms ≡ [] → All (IsWhole (race_of c)) m.members
     members-whole none =
-        let next = (levels-of-merged-go-on tells_of r tells-on (is-race c)).0.next n m is.merged in
+        let next = (levels-of-merged-go-on (tells_of asks) r (tells-on asks) (is-race c)).0.next n m is.merged in
         λ k d lt. ((is.merged.members k d lt).history, next k d lt ∙ ap (next_behind (race_of c)) is.shows ∙ none)
 
-    members-come : All (λ (k : List Move). comes c k ≡ comes c ms) m.members
-    members-come k d lt =
-        sym (comes-the-same places-tell-the-same c m.shows (get_or m.members k d) (is.merged.members k d lt).alike) ∙ ap (comes c) is.shows
+    members-alike : All (λ (k : List Move). ComeToldAlike (tells_of asks) (race_of c) ms k) m.members
+    members-alike k d lt =
+        subst (λ (shows : List Move). ComeToldAlike (tells_of asks) (race_of c) shows (get_or m.members k d)) is.shows (is.merged.members k d lt).alike
 
-    members-to : (text : List ℕ) → text ≡ comes c ms → ComeTo (comes c) text ms number m.members
-    members-to text e = record {
-      come = λ k d lt. members-come k d lt ∙ sym e;
+    -- and to the same outcome, or where claims are asked to the same facts
+    members-come : asks ≡ false → All (λ (k : List Move). comes c k ≡ comes c ms) m.members
+    members-come no_ k d lt =
+        sym (comes-the-same places-tell-the-same c ms (get_or m.members k d) (subst (λ (by : Bool). ComeToldAlike (tells_of by) (race_of c) ms (get_or m.members k d)) no_ (members-alike k d lt)))
+
+    pub members-facts : asks ≡ true → All (λ (k : List Move). facts_at c k ≡ facts_at c ms) m.members
+    members-facts asking k d lt =
+        sym (facts-the-same nets-tell-the-same c ms (get_or m.members k d) (subst (λ (by : Bool). ComeToldAlike (tells_of by) (race_of c) ms (get_or m.members k d)) asking (members-alike k d lt)))
+
+    members-to : (tell : List Move → List ℕ) → All (λ (k : List Move). tell k ≡ tell ms) m.members → ComeTo tell (tell ms) ms number m.members
+    members-to tell come = record {
+      come = come;
       among = subst (Contains m.members) is.shows is.among;
       least = λ k d lt.
           (let a = is.merged.long in
@@ -173,14 +184,24 @@ module _ (c : Scene) where
     }
 
   -- and so it goes on
-  pub stands-on : (n : ℕ) (ms : List Move) (number : ℕ) (m : Merged) (mv : Move) → StandsFor (race_of c) n ms number m → Contains (next_behind (race_of c) ms) mv
-      → StandsFor (race_of c) (suc n) (mv ∷ ms) number (with_move mv m)
+  pub stands-on : (n : ℕ) (ms : List Move) (number : ℕ) (m : Merged) (mv : Move) → StandsFor asks (race_of c) n ms number m → Contains (next_behind (race_of c) ms) mv
+      → StandsFor asks (race_of c) (suc n) (mv ∷ ms) number (with_move mv m)
   stands-on n ms number m mv is listed = record {
     shows = ap (λ k. mv ∷ k) is.shows;
-    merged = (levels-of-merged-go-on tells_of r tells-on (is-race c)).0.go_on n m mv is.merged (subst (λ k. Contains (next_behind (race_of c) k) mv) (sym is.shows) listed);
+    merged = (levels-of-merged-go-on (tells_of asks) r (tells-on asks) (is-race c)).0.go_on n m mv is.merged (subst (λ k. Contains (next_behind (race_of c) k) mv) (sym is.shows) listed);
     among = contains-map (λ (h : List Move). mv ∷ h) m.members m.shows is.among;
     number = is.number ∙ ap told_number (sym (length-map m.members (λ (h : List Move). mv ∷ h)));
   }
+
+-- the history that a class shows is among those for which the classes stand
+shown-among : (asks : Bool) (r : Race) (n : ℕ) (classes : List Class) (ms : List Merged) (k : ℕ) (class : Class) → StandFor asks r n classes ms → slice_get classes k ≡ Some class
+    → Contains (all_members ms) (shown_by class)
+shown-among asks r n [] ms k class h e = absurd (cc)
+shown-among asks r n (x ∷ classes) [] k class h e = absurd h
+shown-among asks r n (x ∷ classes) (m ∷ ms) zero class h e =
+    subst (λ (y : Class). Contains (m.members ++ all_members ms) (shown_by y)) (some-is x class e)
+    (Contains-append_left m.members (all_members ms) (shown_by x) (subst (Contains m.members) h.0.shows h.0.among))
+shown-among asks r n (x ∷ classes) (m ∷ ms) (suc k) class h e = Contains-append_right m.members (all_members ms) (shown_by class) (shown-among asks r n classes ms k class h.1 e)
 
 module _ (c : Scene) (asked : Asked) (n : ℕ) where
   -- The same histories, in another order.
@@ -259,7 +280,7 @@ module _ (c : Scene) (asked : Asked) (n : ℕ) where
 
   -- A position is come to.
 
-  module _ (s t : Search) (ms : List Move) (number : ℕ) (m : Merged) (is : StandsFor (race_of c) n ms number m) where
+  module _ (s t : Search) (ms : List Move) (number : ℕ) (m : Merged) (is : StandsFor (asks_of asked) (race_of c) n ms number m) where
     -- none that was found is longer
     later : (pending : List (List Move)) → (w : IsWithin c asked n (m.members ++ pending) s) → AreLater (w.before ++ w.ends) m.members
     later pending w =
@@ -270,46 +291,63 @@ module _ (c : Scene) (asked : Asked) (n : ℕ) where
         let b = (is.merged.members j e within).long in
         omega (arith, a, b)))
 
+    -- where no outcomes are told claims are asked
+    told-only : asked.tells ≡ true → asks_of asked ≡ false
+    told-only e = ap not e
+
     -- the histories are whole
-    pub ended : next_behind (race_of c) ms ≡ [] → (text : List ℕ) → text ≡ comes c ms
-        → (asked.tells ≡ true → Counts text ms number s.explored.findings.items.items t.explored.findings.items.items)
-        → JudgesAll asked.claims.now text ms s.explored.judged.items t.explored.judged.items
+    pub ended : next_behind (race_of c) ms ≡ []
+        → (asked.tells ≡ true → Counts (comes c ms) ms number s.explored.findings.items.items t.explored.findings.items.items)
+        → (asks_of asked ≡ true → JudgesAll true asked.claims.now (facts_at c ms) ms s.explored.judged.items t.explored.judged.items)
         → t.explored.histories ≡ min (s.explored.histories + number) (2 ^ 64 - 1) → t.explored.events ≡ s.explored.events → t.explored.is_cut ≡ s.explored.is_cut → t.explored.bound ≡ s.explored.bound → t.next ≡ s.next
         → Come c asked n m.members s t
-    ended none text e counts judges histories events cut bound next pending w =
+    ended none counts judges histories events cut bound next pending w =
         record {
           before = w.before;
           ends = w.ends ++ m.members;
           merged = w.merged;
           has = subst (λ xs. HasFound c asked xs t.explored) (append_assoc w.before w.ends m.members) (record {
-            findings = λ tells. counts tells (comes c) (w.before ++ w.ends) m.members (members-to c n ms number m is text e) (later pending w) (w.has.findings tells);
-            judged = judges (comes c) (w.before ++ w.ends) m.members number (members-to c n ms number m is text e) (later pending w) w.has.judged;
+            findings = λ tells. counts tells (comes c) (w.before ++ w.ends) m.members
+                (members-to (asks_of asked) c n ms number m is (comes c) (members-come (asks_of asked) c n ms number m is (told-only tells))) (later pending w) (w.has.findings tells);
             histories = told-both (length (w.before ++ w.ends)) (length m.members) s.explored.histories number t.explored.histories w.has.histories is.number histories
                 ∙ ap told_number (sym (length-append (w.before ++ w.ends) m.members));
             events = (let a = w.has.events in omega (arith, a, events));
           });
           found = w.found;
-          whole = All-append (IsWhole (race_of c)) w.ends m.members w.whole (members-whole c n ms number m is none);
-          stand = subst (λ v. StandFor (race_of c) n v.items w.merged) (sym next) w.stand;
+          watched = λ yes. subst (λ (es : List (List Move)). IsWatching c asked.claims.now n pending es t.explored.judged.items) (append_assoc w.before w.ends m.members)
+              (go-on c asked.claims.now true n m.members pending (w.before ++ w.ends) (facts_at c ms) ms number s.explored.judged.items t.explored.judged.items (w.watched yes)
+              (members-to (asks_of asked) c n ms number m is (facts_at c) (members-facts (asks_of asked) c n ms number m is yes))
+              (λ k d lt. (is.merged.members k d lt).long) (later pending w) (judges yes));
+          whole = All-append (IsWhole (race_of c)) w.ends m.members w.whole (members-whole (asks_of asked) c n ms number m is none);
+          stand = subst (λ v. StandFor (asks_of asked) (race_of c) n v.items w.merged) (sym next) w.stand;
           go_on = w.go_on;
           all = same-ended w.merged w.ends pending m.members w.all;
           uncut = cut ∙ w.uncut;
           bound = bound ∙ w.bound;
         }
 
+    class-facts : asks_of asked ≡ true → (old : Class) → ComeToldAlike (tells_of (asks_of asked)) (race_of c) (shown_by old) ms → facts_at c (shown_by old) ≡ facts_at c ms
+    class-facts asking old alike =
+        facts-the-same nets-tell-the-same c (shown_by old) ms (subst (λ (by : Bool). ComeToldAlike (tells_of by) (race_of c) (shown_by old) ms) asking alike)
+
     -- they are put to a class
     pub put-to : (k : ℕ) (old new : Class) → slice_get s.next.items k ≡ Some old → new.moves ≡ old.moves → new.number ≡ min (old.number + number) (2 ^ 64 - 1)
-        → ComeToldAlike tells_of (race_of c) (shown_by old) ms → t.explored ≡ s.explored → t.next.items ≡ set s.next.items k new → Come c asked n m.members s t
+        → ComeToldAlike (tells_of (asks_of asked)) (race_of c) (shown_by old) ms → t.explored ≡ s.explored → t.next.items ≡ set s.next.items k new → Come c asked n m.members s t
     put-to k old new at moves number-is alike same next pending w =
-        let both = stand-joined c n k s.next.items w.merged old new ms number m w.stand at moves number-is is alike in
+        let both = stand-joined (asks_of asked) c n k s.next.items w.merged old new ms number m w.stand at moves number-is is alike in
         record {
           before = w.before;
           ends = w.ends;
           merged = joined k m w.merged;
           has = subst (HasFound c asked (w.before ++ w.ends)) (sym same) w.has;
+          watched = λ yes. subst (λ (e : Explored). IsWatching c asked.claims.now n pending (w.before ++ w.ends) e.judged.items) (sym same)
+              (see-again c asked.claims.now n m.members pending (w.before ++ w.ends) (shown_by old) s.explored.judged.items (w.watched yes)
+              (came-too (all_members w.merged ++ w.ends) (w.watched yes).come (m.members ++ pending) (histories_of (race_of c) n) w.all (w.watched yes).all (shown_by old)
+              (Contains-append_left (all_members w.merged) w.ends (shown_by old) (shown-among (asks_of asked) (race_of c) n s.next.items w.merged k old w.stand at)))
+              (λ i d lt. (members-facts (asks_of asked) c n ms number m is yes i d lt ∙ sym (class-facts yes old alike), (is.merged.members i d lt).long)));
           found = w.found;
           whole = w.whole;
-          stand = subst (λ xs. StandFor (race_of c) n xs (joined k m w.merged)) (sym next) both.0;
+          stand = subst (λ xs. StandFor (asks_of asked) (race_of c) n xs (joined k m w.merged)) (sym next) both.0;
           go_on = joined-go (race_of c) k m w.merged w.go_on;
           all = same-joined w.merged w.ends pending k m both.1 w.all;
           uncut = ap (λ (e : Explored). e.is_cut) same ∙ w.uncut;
@@ -317,19 +355,24 @@ module _ (c : Scene) (asked : Asked) (n : ℕ) where
         }
 
     -- they are a class of their own
-    pub put-last : (class : Class) → shown_by class ≡ ms → class.number ≡ number → (next_behind (race_of c) ms ≡ [] → ⊥) → t.explored ≡ s.explored → t.next.items ≡ s.next.items ++ class ∷ []
-        → Come c asked n m.members s t
-    put-last class moves number-is goes same next pending w =
-        let stands : StandsFor (race_of c) n (shown_by class) class.number m =
-        subst (λ ks. StandsFor (race_of c) n ks class.number m) (sym moves) (subst (λ k. StandsFor (race_of c) n ms k m) (sym number-is) is) in
+    pub put-last : (class : Class) → shown_by class ≡ ms → class.number ≡ number → (next_behind (race_of c) ms ≡ [] → ⊥)
+        → (asks_of asked ≡ true → JudgesAll false asked.claims.now (facts_at c ms) ms s.explored.judged.items t.explored.judged.items)
+        → t.explored ≡ record s.explored { judged = t.explored.judged } → t.next.items ≡ s.next.items ++ class ∷ [] → Come c asked n m.members s t
+    put-last class moves number-is goes judges same next pending w =
+        let stands : StandsFor (asks_of asked) (race_of c) n (shown_by class) class.number m =
+        subst (λ ks. StandsFor (asks_of asked) (race_of c) n ks class.number m) (sym moves) (subst (λ k. StandsFor (asks_of asked) (race_of c) n ms k m) (sym number-is) is) in
         record {
           before = w.before;
           ends = w.ends;
           merged = w.merged ++ m ∷ [];
-          has = subst (HasFound c asked (w.before ++ w.ends)) (sym same) w.has;
+          has = subst (HasFound c asked (w.before ++ w.ends)) (sym same) (record { findings = w.has.findings; histories = w.has.histories; events = w.has.events });
+          watched = λ yes.
+              go-on c asked.claims.now false n m.members pending (w.before ++ w.ends) (facts_at c ms) ms number s.explored.judged.items t.explored.judged.items (w.watched yes)
+              (members-to (asks_of asked) c n ms number m is (facts_at c) (members-facts (asks_of asked) c n ms number m is yes))
+              (λ k d lt. (is.merged.members k d lt).long) (later pending w) (judges yes);
           found = w.found;
           whole = w.whole;
-          stand = subst (λ xs. StandFor (race_of c) n xs (w.merged ++ m ∷ [])) (sym next) (stand-push (race_of c) n s.next.items w.merged class m w.stand stands);
+          stand = subst (λ xs. StandFor (asks_of asked) (race_of c) n xs (w.merged ++ m ∷ [])) (sym next) (stand-push (asks_of asked) (race_of c) n s.next.items w.merged class m w.stand stands);
           go_on = All-append (λ (d : Merged). IsEnd (race_of c) d.shows → ⊥) w.merged (m ∷ []) w.go_on
               (All-cons (λ (d : Merged). IsEnd (race_of c) d.shows → ⊥) m [] (λ e. goes (ap (next_behind (race_of c)) (sym is.shows) ∙ e)) (All-nil (λ (d : Merged). IsEnd (race_of c) d.shows → ⊥)));
           all = same-pushed w.merged w.ends pending m w.all;
@@ -346,13 +389,13 @@ module _ (c : Scene) (asked : Asked) (n : ℕ) where
     merged = w.merged;
     has = record {
       findings = λ tells. subst (λ (fs : _). AreFindings (comes c) (w.before ++ w.ends) fs.items.items) (sym findings) (w.has.findings tells);
-      judged = subst (λ (js : _). AreJudged (comes c) (w.before ++ w.ends) asked.claims.now js.items) (sym judged) w.has.judged;
       histories = histories ∙ w.has.histories;
       events = events;
     };
+    watched = λ yes. subst (λ (js : _). IsWatching c asked.claims.now n pending (w.before ++ w.ends) js.items) (sym judged) (w.watched yes);
     found = w.found;
     whole = w.whole;
-    stand = subst (λ v. StandFor (race_of c) n v.items w.merged) (sym next) w.stand;
+    stand = subst (λ v. StandFor (asks_of asked) (race_of c) n v.items w.merged) (sym next) w.stand;
     go_on = w.go_on;
     all = w.all;
     uncut = cut ∙ w.uncut;
@@ -400,7 +443,10 @@ module _ (c : Scene) (asked : Asked) (n : ℕ) where
       → (w : IsWithin c asked n pending s) → LeavesOut (race_of c) s.explored.bound (w.before ++ w.ends) → IsOver c asked t.explored
   cut-by s t pending same why w out = subst (IsOver c asked) (sym same) (record {
     found = w.before ++ w.ends;
-    has = record { findings = w.has.findings; judged = w.has.judged; histories = w.has.histories; events = w.has.events };
+    pending = pending;
+    has = record { findings = w.has.findings; histories = w.has.histories; events = w.has.events };
+    watched = λ yes. subst (λ (b : ℕ). IsWatching c asked.claims.now b pending (w.before ++ w.ends) s.explored.judged.items) (sym w.bound) (w.watched yes);
+    none_pending = λ k. absurd (false≢true (sym k));
     whole = All-append (IsWhole (race_of c)) w.before w.ends
         (All-weaker (λ (h : List Move). IsWhole (race_of c) h × (length h < n)) (IsWhole (race_of c)) (λ h is. is.0) w.before w.found.whole) w.whole;
     once = front-once (race_of c) n w.before (all_members w.merged) w.ends pending w.found w.all;
@@ -439,13 +485,13 @@ module _ (c : Scene) (asked : Asked) (n : ℕ) (s : Search) (w : IsWithin c aske
   abbrev all-of-level : SameHistories (all_members w.merged ++ w.ends) (histories_of (race_of c) n)
   all-of-level = subst (λ xs. SameHistories xs (histories_of (race_of c) n)) (append-nil (all_members w.merged ++ w.ends)) w.all
 
-  merged-are : (classes : List Class) (ms : List Merged) → StandFor (race_of c) n classes ms → All (IsMerged tells_of (race_of c) n) ms
-  merged-are [] [] h = All-nil (IsMerged tells_of (race_of c) n)
+  merged-are : (classes : List Class) (ms : List Merged) → StandFor (asks_of asked) (race_of c) n classes ms → All (IsMerged (tells_of (asks_of asked)) (race_of c) n) ms
+  merged-are [] [] h = All-nil (IsMerged (tells_of (asks_of asked)) (race_of c) n)
   merged-are [] (m ∷ ms) h = absurd h
   merged-are (k ∷ classes) [] h = absurd h
-  merged-are (k ∷ classes) (m ∷ ms) h = All-cons (IsMerged tells_of (race_of c) n) m ms h.0.merged (merged-are classes ms h.1)
+  merged-are (k ∷ classes) (m ∷ ms) h = All-cons (IsMerged (tells_of (asks_of asked)) (race_of c) n) m ms h.0.merged (merged-are classes ms h.1)
 
-  pub is-level : IsLevel tells_of (race_of c) n w.merged w.ends
+  pub is-level : IsLevel (tells_of (asks_of asked)) (race_of c) n w.merged w.ends
   is-level = record {
     merged = merged-are s.next.items w.merged w.stand;
     end = All-weaker (IsWhole (race_of c)) (IsEnd (race_of c)) (λ h is. is.1) w.ends w.whole;
@@ -453,7 +499,7 @@ module _ (c : Scene) (asked : Asked) (n : ℕ) (s : Search) (w : IsWithin c aske
   }
 
   abbrev now-found : AreFound (race_of c) (suc n) (w.before ++ w.ends)
-  now-found = (levels-of-merged-find-all tells_of (race_of c) tells-on (is-race c)).more n w.merged w.ends w.before w.found is-level w.go_on
+  now-found = (levels-of-merged-find-all (tells_of (asks_of asked)) (race_of c) (tells-on (asks_of asked)) (is-race c)).more n w.merged w.ends w.before w.found is-level w.go_on
 
   pub level-begins : (t : Search) (bound : ℕ) → bound ≡ suc n → t.explored ≡ record s.explored { bound = bound } → t.next.items ≡ []
       → IsWithin c asked (suc n) (next_members (race_of c) w.merged) t
@@ -463,17 +509,21 @@ module _ (c : Scene) (asked : Asked) (n : ℕ) (s : Search) (w : IsWithin c aske
     merged = [];
     has = subst (HasFound c asked ((w.before ++ w.ends) ++ [])) (sym same)
         (subst (λ xs. HasFound c asked xs (record s.explored { bound = bound })) (sym (append-nil (w.before ++ w.ends)))
-        (record { findings = w.has.findings; judged = w.has.judged; histories = w.has.histories; events = w.has.events }));
+        (record { findings = w.has.findings; histories = w.has.histories; events = w.has.events }));
+    watched = λ yes. subst (λ (e : Explored). IsWatching c asked.claims.now (suc n) (next_members (race_of c) w.merged) ((w.before ++ w.ends) ++ []) e.judged.items) (sym same)
+        (subst (λ (es : List (List Move)). IsWatching c asked.claims.now (suc n) (next_members (race_of c) w.merged) es s.explored.judged.items) (sym (append-nil (w.before ++ w.ends)))
+        (rise c asked.claims.now n (w.before ++ w.ends) s.explored.judged.items (w.watched yes) (next_members (race_of c) w.merged)
+        ((levels-of-merged-go-on (tells_of (asks_of asked)) (race_of c) (tells-on (asks_of asked)) (is-race c)).1 n w.merged w.ends is-level)));
     found = now-found;
     whole = All-nil (IsWhole (race_of c));
-    stand = subst (λ xs. StandFor (race_of c) (suc n) xs []) (sym next) tt;
+    stand = subst (λ xs. StandFor (asks_of asked) (race_of c) (suc n) xs []) (sym next) tt;
     go_on = All-nil (λ (m : Merged). IsEnd (race_of c) m.shows → ⊥);
-    all = (levels-of-merged-go-on tells_of (race_of c) tells-on (is-race c)).1 n w.merged w.ends is-level;
+    all = (levels-of-merged-go-on (tells_of (asks_of asked)) (race_of c) (tells-on (asks_of asked)) (is-race c)).1 n w.merged w.ends is-level;
     uncut = ap (λ (e : Explored). e.is_cut) same ∙ w.uncut;
     bound = ap (λ (e : Explored). e.bound) same ∙ is;
   }
 
-  pub none-merged : (classes : List Class) (ms : List Merged) → StandFor (race_of c) n classes ms → classes ≡ [] → ms ≡ []
+  pub none-merged : (classes : List Class) (ms : List Merged) → StandFor (asks_of asked) (race_of c) n classes ms → classes ≡ [] → ms ≡ []
   none-merged [] [] h e = refl
   none-merged [] (m ∷ ms) h e = absurd h
   none-merged (k ∷ classes) ms h e = absurd (cc)
@@ -481,24 +531,27 @@ module _ (c : Scene) (asked : Asked) (n : ℕ) (s : Search) (w : IsWithin c aske
   pub search-ends : s.next.items ≡ [] → IsOver c asked s.explored
   search-ends none-left =
       let nothing = none-merged s.next.items w.merged w.stand none-left in
-      let level = subst (λ ms. IsLevel tells_of (race_of c) n ms w.ends) nothing is-level in
+      let level = subst (λ ms. IsLevel (tells_of (asks_of asked)) (race_of c) n ms w.ends) nothing is-level in
       record {
         found = w.before ++ w.ends;
+        pending = [];
         has = w.has;
+        watched = λ yes. subst (λ (b : ℕ). IsWatching c asked.claims.now b [] (w.before ++ w.ends) s.explored.judged.items) (sym w.bound) (w.watched yes);
+        none_pending = λ k. refl;
         whole = All-weaker (λ (h : List Move). IsWhole (race_of c) h × (length h < suc n)) (IsWhole (race_of c)) (λ h is. is.0) (w.before ++ w.ends) now-found.whole;
         once = now-found.once;
         bounded = all-within c asked n s [] w;
         within = none-beyond c asked n s [] w;
         cut = λ k. absurd (false≢true (sym w.uncut ∙ k));
         out = λ k. absurd (false≢true (sym w.uncut ∙ k));
-        every = λ k. (levels-of-merged-find-all tells_of (race_of c) tells-on (is-race c)).all n w.ends w.before w.found level;
+        every = λ k. (levels-of-merged-find-all (tells_of (asks_of asked)) (race_of c) (tells-on (asks_of asked)) (is-race c)).all n w.ends w.before w.found level;
       }
 
 -- a class that is left shows a history behind which more may come
-long-one : (c : Scene) (n : ℕ) (classes : List Class) (ms : List Merged) → StandFor (race_of c) n classes ms → All (λ (m : Merged). IsEnd (race_of c) m.shows → ⊥) ms → (classes ≡ [] → ⊥) → n ≡ STEPS_LIMIT → IsLong c
-long-one c n [] ms h go_on some is = absurd (some refl)
-long-one c n (k ∷ classes) [] h go_on some is = absurd h
-long-one c n (k ∷ classes) (m ∷ ms) h go_on some is = record {
+long-one : (asks : Bool) (c : Scene) (n : ℕ) (classes : List Class) (ms : List Merged) → StandFor asks (race_of c) n classes ms → All (λ (m : Merged). IsEnd (race_of c) m.shows → ⊥) ms → (classes ≡ [] → ⊥) → n ≡ STEPS_LIMIT → IsLong c
+long-one asks c n [] ms h go_on some is = absurd (some refl)
+long-one asks c n (k ∷ classes) [] h go_on some is = absurd h
+long-one asks c n (k ∷ classes) (m ∷ ms) h go_on some is = record {
   moves = m.shows;
   history = h.0.merged.history;
   long = h.0.merged.long ∙ is;
@@ -528,7 +581,7 @@ long-out c asked n s w long is = record {
 pub over-by : (c : Scene) (asked : Asked) (n : ℕ) (s : Search) → IsWithin c asked n [] s → n ≡ STEPS_LIMIT → (cut : Bool) → (cut ≡ false → s.next.items ≡ []) → (cut ≡ true → s.next.items ≡ [] → ⊥)
     → IsOver c asked (record s.explored { is_cut = cut })
 over-by c asked n s w last true none some =
-    let long = long-one c n s.next.items w.merged w.stand w.go_on (some refl) last in
+    let long = long-one (asks_of asked) c n s.next.items w.merged w.stand w.go_on (some refl) last in
     cut-by c asked n s (record s { explored = record s.explored { is_cut = true } }) [] refl (inl (inr long)) w (long-out c asked n s w long (long.long ∙ sym last))
 over-by c asked n s w last false none some = subst (λ (e : Explored). IsOver c asked e) (λ i. record s.explored { is_cut = w.uncut i }) (search-ends c asked n s w (none refl))
 
@@ -538,19 +591,19 @@ module _ (c : Scene) (asked : Asked) where
   abbrev pub root : Merged
   root = record { shows = []; members = [] ∷ [] }
 
-  pub root-stands : StandsFor (race_of c) 0 [] 1 root
+  pub root-stands : StandsFor (asks_of asked) (race_of c) 0 [] 1 root
   root-stands = record {
     shows = refl;
     merged = record {
       history = tt;
       long = refl;
-      members = All-cons (IsMember tells_of (race_of c) 0 []) [] [] (record { history = tt; long = refl; alike = (told-alike-is-an-equivalence tells_of (length (race_of c).scripts)).itself (position c []) }) (All-nil (IsMember tells_of (race_of c) 0 []));
+      members = All-cons (IsMember (tells_of (asks_of asked)) (race_of c) 0 []) [] [] (record { history = tt; long = refl; alike = (told-alike-is-an-equivalence (tells_of (asks_of asked)) (length (race_of c).scripts)).itself (position c []) }) (All-nil (IsMember (tells_of (asks_of asked)) (race_of c) 0 []));
     };
     among = here [] [];
     number = refl;
   }
 
-  pub first-within : (s : Search) → s.explored.findings.items.items ≡ [] → AreJudged (comes c) [] asked.claims.now s.explored.judged.items → s.explored.histories ≡ 0 → s.explored.events ≡ 0 → s.explored.is_cut ≡ false → s.explored.bound ≡ 0 → s.next.items ≡ []
+  pub first-within : (s : Search) → s.explored.findings.items.items ≡ [] → AreJudged (facts_at c) [] [] asked.claims.now s.explored.judged.items → s.explored.histories ≡ 0 → s.explored.events ≡ 0 → s.explored.is_cut ≡ false → s.explored.bound ≡ 0 → s.next.items ≡ []
       → IsWithin c asked 0 ([] ∷ []) s
   first-within s findings judged histories events uncut bound next = record {
     before = [];
@@ -558,13 +611,13 @@ module _ (c : Scene) (asked : Asked) where
     merged = [];
     has = record {
       findings = λ tells. subst (AreFindings (comes c) []) (sym findings) (none-found (comes c));
-      judged = judged;
       histories = histories;
       events = omega (arith, events);
     };
+    watched = λ yes. begins c asked.claims.now s.explored.judged.items judged;
     found = record { every = λ h whole lt. absurd (omega (arith, lt)); whole = All-nil (λ (h : List Move). IsWhole (race_of c) h × (length h < 0)); once = tt };
     whole = All-nil (IsWhole (race_of c));
-    stand = subst (λ xs. StandFor (race_of c) 0 xs []) (sym next) tt;
+    stand = subst (λ xs. StandFor (asks_of asked) (race_of c) 0 xs []) (sym next) tt;
     go_on = All-nil (λ (m : Merged). IsEnd (race_of c) m.shows → ⊥);
     all = λ ask. refl;
     uncut = uncut;
@@ -608,26 +661,26 @@ listed-at xs ys i x e same = subst (λ zs. Contains zs x) same (by xs i e)
     by (z ∷ zs) (suc k) g = there x z zs (by zs k g)
 
 -- the histories of the class that stands there
-pub stand-at : (r : Race) (n : ℕ) (classes : List Class) (ms : List Merged) (i : ℕ) (class : Class) → StandFor r n classes ms → slice_get classes i ≡ Some class
-    → (m : Merged) × ((slice_get ms i ≡ Some m) × StandsFor r n (shown_by class) class.number m)
-stand-at r n [] ms i class h e = absurd (cc)
-stand-at r n (k ∷ classes) [] i class h e = absurd h
-stand-at r n (k ∷ classes) (m ∷ ms) zero class h e =
-    (m, (refl, subst (λ (x : Class). StandsFor r n (shown_by x) x.number m) (some-is k class e) h.0))
-stand-at r n (k ∷ classes) (m ∷ ms) (suc i) class h e = stand-at r n classes ms i class h.1 e
+pub stand-at : (asks : Bool) (r : Race) (n : ℕ) (classes : List Class) (ms : List Merged) (i : ℕ) (class : Class) → StandFor asks r n classes ms → slice_get classes i ≡ Some class
+    → (m : Merged) × ((slice_get ms i ≡ Some m) × StandsFor asks r n (shown_by class) class.number m)
+stand-at asks r n [] ms i class h e = absurd (cc)
+stand-at asks r n (k ∷ classes) [] i class h e = absurd h
+stand-at asks r n (k ∷ classes) (m ∷ ms) zero class h e =
+    (m, (refl, subst (λ (x : Class). StandsFor asks r n (shown_by x) x.number m) (some-is k class e) h.0))
+stand-at asks r n (k ∷ classes) (m ∷ ms) (suc i) class h e = stand-at asks r n classes ms i class h.1 e
 
-pub as-many-stand : (r : Race) (n : ℕ) (classes : List Class) (ms : List Merged) → StandFor r n classes ms → length ms ≡ length classes
-as-many-stand r n [] [] h = refl
-as-many-stand r n [] (m ∷ ms) h = absurd h
-as-many-stand r n (k ∷ classes) [] h = absurd h
-as-many-stand r n (k ∷ classes) (m ∷ ms) h = ap suc (as-many-stand r n classes ms h.1)
+pub as-many-stand : (asks : Bool) (r : Race) (n : ℕ) (classes : List Class) (ms : List Merged) → StandFor asks r n classes ms → length ms ≡ length classes
+as-many-stand asks r n [] [] h = refl
+as-many-stand asks r n [] (m ∷ ms) h = absurd h
+as-many-stand asks r n (k ∷ classes) [] h = absurd h
+as-many-stand asks r n (k ∷ classes) (m ∷ ms) h = ap suc (as-many-stand asks r n classes ms h.1)
 
 -- One class of a level goes on.
 
-module _ (c : Scene) (asked : Asked) (n : ℕ) (classes : List Class) (ms : List Merged) (stand : StandFor (race_of c) n classes ms) (i : ℕ) (class : Class) (at : slice_get classes i ≡ Some class) (s t u : Search)
+module _ (c : Scene) (asked : Asked) (n : ℕ) (classes : List Class) (ms : List Merged) (stand : StandFor (asks_of asked) (race_of c) n classes ms) (i : ℕ) (class : Class) (at : slice_get classes i ≡ Some class) (s t u : Search)
     (come : Come c asked (suc n) (next_members (race_of c) (take i ms)) s t) where
-  abbrev it : (m : Merged) × ((slice_get ms i ≡ Some m) × StandsFor (race_of c) n (shown_by class) class.number m)
-  it = stand-at (race_of c) n classes ms i class stand at
+  abbrev it : (m : Merged) × ((slice_get ms i ≡ Some m) × StandsFor (asks_of asked) (race_of c) n (shown_by class) class.number m)
+  it = stand-at (asks_of asked) (race_of c) n classes ms i class stand at
 
   abbrev on : List (List Move)
   on = going_on (next_behind (race_of c) (shown_by class)) it.0.members

@@ -1,6 +1,6 @@
 -- Scripts behind moves: how far each is, and one that goes on by a command.
 -- k is the number of a script, i its place in a list, left, told and p are its own; those of all are lists.
-use Rattle.std.proofs.Common.{ℕ, zero, suc, ◌≡◌, ◌+◌, ◌<◌, List, [], ◌∷◌, ◌++◌, length, map, drop, reverse, set, option_to_list, Option, Some, None, slice_get, slice_set, refl, sym, ◌∙◌, ap, ap₂, subst, arith, append_assoc, codes, decimal}
+use Rattle.std.proofs.Common.{ℕ, zero, suc, ◌≡◌, ◌+◌, ◌<◌, Bool, true, false, List, [], ◌∷◌, ◌++◌, length, map, drop, reverse, set, option_to_list, Option, Some, None, slice_get, slice_set, refl, sym, ◌∙◌, ap, ap₂, subst, arith, append_assoc, codes, decimal}
 use Rattle.std.specs.List.{All, cons_option, flat_map, filter_map}
 use Rattle.std.proofs.lemmas.List.{append-nil, reverse-append, length-reverse}
 use Rattle.std.proofs.lemmas.List.Concat.{flat_map-append}
@@ -8,45 +8,48 @@ use Rattle.std.proofs.lemmas.List.Elements.{filter_map-append}
 use Rattle.chorus_entry.specs.declared.act.Act as acts
 use Rattle.chorus_entry.specs.declared.act.Act.TheVariants as variants
 use Rattle.chorus_entry.specs.declared.command.Command.{Command}
-use Rattle.law_explore.specs.Outcome.{Answered, plain_act, post_in, posts_in, answers_from, answer_facts}
-use Rattle.law_explore.specs.Races.{next_of, behind_next}
+use Rattle.law_explore.specs.Outcome.{Answered, Settled, plain_act, post_in, posted, posts_in, answers_from, answer_facts}
+use Rattle.law_explore.specs.Moment.{answer_with, settled_from, settled_facts}
+use Rattle.law_explore.specs.Races.{Told, next_of, behind_next}
 use Rattle.chorus_scene.specs.Scene.{Script}
+use Rattle.chorus_show.specs.Lines.{act_text}
 use Rattle.chorus_show.specs.Phrases.{phrase}
 use Rattle.chorus_explore.specs.declared.race_sites.Progress.{Progress}
 use Rattle.explore_report.specs.Facts.{plain_act_text, fact_line}
 use Rattle.chorus_explore.specs.Stages.{IsProgress, AreProgress}
+use Rattle.chorus_explore.specs.Tellings.{answer_by, answers_by, answered_line}
 
 -- Lists of the same length.
 
-pub record ProgressAt (k i : ℕ) (ss : List Script) (lefts : List (List Command)) (tolds : List (List acts.Act)) (ps : List Progress) : Type 0 where
+pub record ProgressAt (asks : Bool) (k i : ℕ) (ss : List Script) (lefts : List (List Command)) (tolds : List (List Told)) (ps : List Progress) : Type 0 where
   pub script : Script
   pub left : List Command
-  pub told : List acts.Act
+  pub told : List Told
   pub p : Progress
   pub is_script : slice_get ss i ≡ Some script
   pub is_left : slice_get lefts i ≡ Some left
   pub is_told : slice_get tolds i ≡ Some told
   pub is_p : slice_get ps i ≡ Some p
-  pub is : IsProgress (k + i) script.commands left told p
+  pub is : IsProgress asks (k + i) script.commands left told p
 
-pub progress-length : (k : ℕ) (ss : List Script) (lefts : List (List Command)) (tolds : List (List acts.Act)) (ps : List Progress) → AreProgress k ss lefts tolds ps
+pub progress-length : (asks : Bool) (k : ℕ) (ss : List Script) (lefts : List (List Command)) (tolds : List (List Told)) (ps : List Progress) → AreProgress asks k ss lefts tolds ps
     → (length ps ≡ length ss) × (length lefts ≡ length ss)
-progress-length k [] [] [] [] h = (refl, refl)
-progress-length k (s ∷ ss) (l ∷ lefts) (t ∷ tolds) (p ∷ ps) h = (let rest = progress-length (k + 1) ss lefts tolds ps h.1 in (ap suc rest.0, ap suc rest.1))
-progress-length k [] [] [] (p ∷ ps) h = absurd h
-progress-length k [] [] (t ∷ tolds) ps h = absurd h
-progress-length k [] (l ∷ lefts) tolds ps h = absurd h
-progress-length k (s ∷ ss) [] tolds ps h = absurd h
-progress-length k (s ∷ ss) (l ∷ lefts) [] ps h = absurd h
-progress-length k (s ∷ ss) (l ∷ lefts) (t ∷ tolds) [] h = absurd h
+progress-length asks k [] [] [] [] h = (refl, refl)
+progress-length asks k (s ∷ ss) (l ∷ lefts) (t ∷ tolds) (p ∷ ps) h = (let rest = progress-length asks (k + 1) ss lefts tolds ps h.1 in (ap suc rest.0, ap suc rest.1))
+progress-length asks k [] [] [] (p ∷ ps) h = absurd h
+progress-length asks k [] [] (t ∷ tolds) ps h = absurd h
+progress-length asks k [] (l ∷ lefts) tolds ps h = absurd h
+progress-length asks k (s ∷ ss) [] tolds ps h = absurd h
+progress-length asks k (s ∷ ss) (l ∷ lefts) [] ps h = absurd h
+progress-length asks k (s ∷ ss) (l ∷ lefts) (t ∷ tolds) [] h = absurd h
 
-pub progress-at : (k i : ℕ) (ss : List Script) (lefts : List (List Command)) (tolds : List (List acts.Act)) (ps : List Progress) → AreProgress k ss lefts tolds ps → i < length ss
-    → ProgressAt k i ss lefts tolds ps
-progress-at k i [] [] [] [] h lt = absurd (omega (arith, lt))
-progress-at k zero (s ∷ ss) (l ∷ lefts) (t ∷ tolds) (p ∷ ps) h lt =
-    record { script = s; left = l; told = t; p = p; is_script = refl; is_left = refl; is_told = refl; is_p = refl; is = (let e : k ≡ k + 0 = omega arith in subst (λ j. IsProgress j s.commands l t p) e h.0) }
-progress-at k (suc i) (s ∷ ss) (l ∷ lefts) (t ∷ tolds) (p ∷ ps) h lt =
-    let rest = progress-at (k + 1) i ss lefts tolds ps h.1 (omega (arith, lt)) in
+pub progress-at : (asks : Bool) (k i : ℕ) (ss : List Script) (lefts : List (List Command)) (tolds : List (List Told)) (ps : List Progress) → AreProgress asks k ss lefts tolds ps → i < length ss
+    → ProgressAt asks k i ss lefts tolds ps
+progress-at asks k i [] [] [] [] h lt = absurd (omega (arith, lt))
+progress-at asks k zero (s ∷ ss) (l ∷ lefts) (t ∷ tolds) (p ∷ ps) h lt =
+    record { script = s; left = l; told = t; p = p; is_script = refl; is_left = refl; is_told = refl; is_p = refl; is = (let e : k ≡ k + 0 = omega arith in subst (λ j. IsProgress asks j s.commands l t p) e h.0) }
+progress-at asks k (suc i) (s ∷ ss) (l ∷ lefts) (t ∷ tolds) (p ∷ ps) h lt =
+    let rest = progress-at asks (k + 1) i ss lefts tolds ps h.1 (omega (arith, lt)) in
     let e : (k + 1) + i ≡ k + suc i = omega arith in
     record {
       script = rest.script;
@@ -57,33 +60,33 @@ progress-at k (suc i) (s ∷ ss) (l ∷ lefts) (t ∷ tolds) (p ∷ ps) h lt =
       is_left = rest.is_left;
       is_told = rest.is_told;
       is_p = rest.is_p;
-      is = subst (λ j. IsProgress j rest.script.commands rest.left rest.told rest.p) e rest.is;
+      is = subst (λ j. IsProgress asks j rest.script.commands rest.left rest.told rest.p) e rest.is;
     }
-progress-at k i [] [] [] (p ∷ ps) h lt = absurd h
-progress-at k i [] [] (t ∷ tolds) ps h lt = absurd h
-progress-at k i [] (l ∷ lefts) tolds ps h lt = absurd h
-progress-at k i (s ∷ ss) [] tolds ps h lt = absurd h
-progress-at k i (s ∷ ss) (l ∷ lefts) [] ps h lt = absurd h
-progress-at k i (s ∷ ss) (l ∷ lefts) (t ∷ tolds) [] h lt = absurd h
+progress-at asks k i [] [] [] (p ∷ ps) h lt = absurd h
+progress-at asks k i [] [] (t ∷ tolds) ps h lt = absurd h
+progress-at asks k i [] (l ∷ lefts) tolds ps h lt = absurd h
+progress-at asks k i (s ∷ ss) [] tolds ps h lt = absurd h
+progress-at asks k i (s ∷ ss) (l ∷ lefts) [] ps h lt = absurd h
+progress-at asks k i (s ∷ ss) (l ∷ lefts) (t ∷ tolds) [] h lt = absurd h
 
 -- one script goes on
-pub progress-set : (k i : ℕ) (ss : List Script) (lefts : List (List Command)) (tolds : List (List acts.Act)) (ps : List Progress) (script : Script) (left : List Command) (told : List acts.Act) (p : Progress)
-    → AreProgress k ss lefts tolds ps → slice_get ss i ≡ Some script → IsProgress (k + i) script.commands left told p
-    → AreProgress k ss (slice_set lefts i left) (slice_set tolds i told) (set ps i p)
-progress-set k i [] [] [] [] script left told p h at is = absurd (cc)
-progress-set k zero (s ∷ ss) (l ∷ lefts) (t ∷ tolds) (q ∷ ps) script left told p h at is =
+pub progress-set : (asks : Bool) (k i : ℕ) (ss : List Script) (lefts : List (List Command)) (tolds : List (List Told)) (ps : List Progress) (script : Script) (left : List Command) (told : List Told) (p : Progress)
+    → AreProgress asks k ss lefts tolds ps → slice_get ss i ≡ Some script → IsProgress asks (k + i) script.commands left told p
+    → AreProgress asks k ss (slice_set lefts i left) (slice_set tolds i told) (set ps i p)
+progress-set asks k i [] [] [] [] script left told p h at is = absurd (cc)
+progress-set asks k zero (s ∷ ss) (l ∷ lefts) (t ∷ tolds) (q ∷ ps) script left told p h at is =
     let e : k + 0 ≡ k = omega arith in
     let same : script ≡ s = cc in
-    (subst (λ (z : Script). IsProgress k z.commands left told p) same (subst (λ j. IsProgress j script.commands left told p) e is), h.1)
-progress-set k (suc i) (s ∷ ss) (l ∷ lefts) (t ∷ tolds) (q ∷ ps) script left told p h at is =
+    (subst (λ (z : Script). IsProgress asks k z.commands left told p) same (subst (λ j. IsProgress asks j script.commands left told p) e is), h.1)
+progress-set asks k (suc i) (s ∷ ss) (l ∷ lefts) (t ∷ tolds) (q ∷ ps) script left told p h at is =
     let e : k + suc i ≡ (k + 1) + i = omega arith in
-    (h.0, progress-set (k + 1) i ss lefts tolds ps script left told p h.1 at (subst (λ j. IsProgress j script.commands left told p) e is))
-progress-set k i [] [] [] (q ∷ ps) script left told p h at is = absurd h
-progress-set k i [] [] (t ∷ tolds) ps script left told p h at is = absurd h
-progress-set k i [] (l ∷ lefts) tolds ps script left told p h at is = absurd h
-progress-set k i (s ∷ ss) [] tolds ps script left told p h at is = absurd h
-progress-set k i (s ∷ ss) (l ∷ lefts) [] ps script left told p h at is = absurd h
-progress-set k i (s ∷ ss) (l ∷ lefts) (t ∷ tolds) [] script left told p h at is = absurd h
+    (h.0, progress-set asks (k + 1) i ss lefts tolds ps script left told p h.1 at (subst (λ j. IsProgress asks j script.commands left told p) e is))
+progress-set asks k i [] [] [] (q ∷ ps) script left told p h at is = absurd h
+progress-set asks k i [] [] (t ∷ tolds) ps script left told p h at is = absurd h
+progress-set asks k i [] (l ∷ lefts) tolds ps script left told p h at is = absurd h
+progress-set asks k i (s ∷ ss) [] tolds ps script left told p h at is = absurd h
+progress-set asks k i (s ∷ ss) (l ∷ lefts) [] ps script left told p h at is = absurd h
+progress-set asks k i (s ∷ ss) (l ∷ lefts) (t ∷ tolds) [] script left told p h at is = absurd h
 
 -- A command more.
 
@@ -115,20 +118,33 @@ same-plain a = refl
 same-line : (k i : ℕ) (a : acts.Act) → fact_line (Answered k i (plain_act a)) ≡ fact_line (Answered k i a)
 same-line k i a = ap (λ t. phrase (codes "answer") (decimal k ∷ decimal i ∷ t ∷ []) ++ 10 ∷ []) (same-plain a)
 
-pub answers-last : (k i : ℕ) (told : List acts.Act) (a : acts.Act) → flat_map fact_line (answers_from k i (told ++ a ∷ [])) ≡ flat_map fact_line (answers_from k i told) ++ fact_line (Answered k (i + length told) a)
-answers-last k i [] a =
-    let n : i ≡ i + 0 = omega arith in
-    append-nil (fact_line (Answered k i (plain_act a))) ∙ same-line k i a ∙ ap (λ (j : ℕ). fact_line (Answered k j a)) n
-answers-last k i (b ∷ told) a =
-    let n : (i + 1) + length told ≡ i + suc (length told) = omega arith in
-    let one = fact_line (Answered k i (plain_act b)) in
-    ap (λ xs. one ++ xs) (answers-last k (i + 1) told a ∙ ap (λ (j : ℕ). flat_map fact_line (answers_from k (i + 1) told) ++ fact_line (Answered k j a)) n)
-    ∙ sym (append_assoc one (flat_map fact_line (answers_from k (i + 1) told)) (fact_line (Answered k (i + suc (length told)) a)))
+settled-line : (k i : ℕ) (a b : acts.Act) → fact_line (Settled k i (plain_act a) b) ≡ fact_line (Settled k i a b)
+settled-line k i a b = ap (λ t. phrase (codes "answer") (decimal k ∷ decimal i ∷ t ∷ act_text b ∷ []) ++ 10 ∷ []) (same-plain a)
 
-pub one-more : (k : ℕ) (all left : List Command) (told : List acts.Act) (p new : Progress) (c : Command) (a : acts.Act) → IsProgress k all left told p → next_of (Some left) ≡ Some c
-    → new.next ≡ p.next + 1 → new.answers.items ≡ p.answers.items ++ fact_line (Answered k (p.next + 1) a) → new.posts.items ≡ p.posts.items ++ option_to_list (post_in a)
-    → IsProgress k all (behind_next (Some left)) (a ∷ told) new
-one-more k all left told p new c a is next n answers posts =
+-- the line that is written down is that of the fact
+pub line-is : (asks : Bool) (k i : ℕ) (it : Told) → fact_line (answer_by asks k i it) ≡ answered_line asks k i it.act it.settles
+line-is false k i it = same-line k i it.act
+line-is true k i it = by it.settles
+  where
+    by : (o : Option acts.Act) → fact_line (answer_with k i it.act o) ≡ answered_line true k i it.act o
+    by None = same-line k i it.act
+    by (Some b) = settled-line k i it.act b
+
+pub answers-last : (asks : Bool) (k i : ℕ) (told : List Told) (a : Told)
+    → flat_map fact_line (answers_by asks k i (told ++ a ∷ [])) ≡ flat_map fact_line (answers_by asks k i told) ++ answered_line asks k (i + length told) a.act a.settles
+answers-last asks k i [] a =
+    let n : i ≡ i + 0 = omega arith in
+    append-nil (fact_line (answer_by asks k i a)) ∙ line-is asks k i a ∙ ap (λ (j : ℕ). answered_line asks k j a.act a.settles) n
+answers-last asks k i (b ∷ told) a =
+    let n : (i + 1) + length told ≡ i + suc (length told) = omega arith in
+    let one = fact_line (answer_by asks k i b) in
+    ap (λ xs. one ++ xs) (answers-last asks k (i + 1) told a ∙ ap (λ (j : ℕ). flat_map fact_line (answers_by asks k (i + 1) told) ++ answered_line asks k j a.act a.settles) n)
+    ∙ sym (append_assoc one (flat_map fact_line (answers_by asks k (i + 1) told)) (answered_line asks k (i + suc (length told)) a.act a.settles))
+
+pub one-more : (asks : Bool) (k : ℕ) (all left : List Command) (told : List Told) (p new : Progress) (c : Command) (a : Told) → IsProgress asks k all left told p → next_of (Some left) ≡ Some c
+    → new.next ≡ p.next + 1 → new.answers.items ≡ p.answers.items ++ answered_line asks k (p.next + 1) a.act a.settles → new.posts.items ≡ p.posts.items ++ option_to_list (post_in a.act)
+    → IsProgress asks k all (behind_next (Some left)) (a ∷ told) new
+one-more asks k all left told p new c a is next n answers posts =
     let two = next-is p.next all c (ap (λ cs. next_of (Some cs)) (sym is.rest) ∙ next) in
     let lt = there-below all p.next c two.0 in
     let turn : reverse (a ∷ told) ≡ reverse told ++ a ∷ [] = reverse-append (a ∷ []) told in
@@ -137,10 +153,10 @@ one-more k all left told p new c a is next n answers posts =
       rest = ap (λ cs. behind_next (Some cs)) is.rest ∙ two.1 ∙ ap (λ (m : ℕ). drop m all) (sym n);
       few = omega (arith, lt, n);
       count = (let m = is.count in omega (arith, m, n));
-      answers = answers ∙ ap (λ xs. xs ++ fact_line (Answered k (p.next + 1) a)) is.answers
-          ∙ ap (λ (m : ℕ). flat_map fact_line (answers_from k 1 (reverse told)) ++ fact_line (Answered k m a)) (sym long)
-          ∙ sym (ap (λ xs. flat_map fact_line (answers_from k 1 xs)) turn ∙ answers-last k 1 (reverse told) a);
-      posts = posts ∙ ap (λ xs. xs ++ option_to_list (post_in a)) is.posts ∙ sym (ap (filter_map post_in) turn ∙ filter_map-append post_in (reverse told) (a ∷ []) ∙ ap (λ xs. filter_map post_in (reverse told) ++ xs) (one (post_in a)));
+      answers = answers ∙ ap (λ xs. xs ++ answered_line asks k (p.next + 1) a.act a.settles) is.answers
+          ∙ ap (λ (m : ℕ). flat_map fact_line (answers_by asks k 1 (reverse told)) ++ answered_line asks k m a.act a.settles) (sym long)
+          ∙ sym (ap (λ xs. flat_map fact_line (answers_by asks k 1 xs)) turn ∙ answers-last asks k 1 (reverse told) a);
+      posts = posts ∙ ap (λ xs. xs ++ option_to_list (post_in a.act)) is.posts ∙ sym (ap (filter_map posted) turn ∙ filter_map-append posted (reverse told) (a ∷ []) ∙ ap (λ xs. filter_map posted (reverse told) ++ xs) (one (post_in a.act)));
     }
   where
     one : {X : Type 0} (o : Option X) → cons_option o [] ≡ option_to_list o
@@ -149,12 +165,20 @@ one-more k all left told p new c a is next n answers posts =
 
 -- What all scripts came to.
 
-pub answers-are : (k : ℕ) (ss : List Script) (lefts : List (List Command)) (tolds : List (List acts.Act)) (ps : List Progress) → AreProgress k ss lefts tolds ps
+pub by-outcome : (k i : ℕ) (told : List Told) → answers_by false k i told ≡ answers_from k i told
+by-outcome k i [] = refl
+by-outcome k i (it ∷ told) = ap (λ fs. Answered k i (plain_act it.act) ∷ fs) (by-outcome k (i + 1) told)
+
+pub by-claims : (k i : ℕ) (told : List Told) → answers_by true k i told ≡ settled_from k i told
+by-claims k i [] = refl
+by-claims k i (it ∷ told) = ap (λ fs. answer_with k i it.act it.settles ∷ fs) (by-claims k (i + 1) told)
+
+pub answers-are : (k : ℕ) (ss : List Script) (lefts : List (List Command)) (tolds : List (List Told)) (ps : List Progress) → AreProgress false k ss lefts tolds ps
     → flat_map fact_line (answer_facts k tolds) ≡ flat_map (λ (p : Progress). p.answers.items) ps
 answers-are k [] [] [] [] h = refl
 answers-are k (s ∷ ss) (l ∷ lefts) (t ∷ tolds) (p ∷ ps) h =
     flat_map-append fact_line (answers_from k 1 (reverse t)) (answer_facts (k + 1) tolds)
-    ∙ ap₂ (λ xs ys. xs ++ ys) (sym h.0.answers) (answers-are (k + 1) ss lefts tolds ps h.1)
+    ∙ ap₂ (λ xs ys. xs ++ ys) (ap (flat_map fact_line) (sym (by-outcome k 1 (reverse t))) ∙ sym h.0.answers) (answers-are (k + 1) ss lefts tolds ps h.1)
 answers-are k [] [] [] (p ∷ ps) h = absurd h
 answers-are k [] [] (t ∷ tolds) ps h = absurd h
 answers-are k [] (l ∷ lefts) tolds ps h = absurd h
@@ -162,22 +186,35 @@ answers-are k (s ∷ ss) [] tolds ps h = absurd h
 answers-are k (s ∷ ss) (l ∷ lefts) [] ps h = absurd h
 answers-are k (s ∷ ss) (l ∷ lefts) (t ∷ tolds) [] h = absurd h
 
-pub posts-are : (k : ℕ) (ss : List Script) (lefts : List (List Command)) (tolds : List (List acts.Act)) (ps : List Progress) → AreProgress k ss lefts tolds ps
+pub settled-are : (k : ℕ) (ss : List Script) (lefts : List (List Command)) (tolds : List (List Told)) (ps : List Progress) → AreProgress true k ss lefts tolds ps
+    → flat_map fact_line (settled_facts k tolds) ≡ flat_map (λ (p : Progress). p.answers.items) ps
+settled-are k [] [] [] [] h = refl
+settled-are k (s ∷ ss) (l ∷ lefts) (t ∷ tolds) (p ∷ ps) h =
+    flat_map-append fact_line (settled_from k 1 (reverse t)) (settled_facts (k + 1) tolds)
+    ∙ ap₂ (λ xs ys. xs ++ ys) (ap (flat_map fact_line) (sym (by-claims k 1 (reverse t))) ∙ sym h.0.answers) (settled-are (k + 1) ss lefts tolds ps h.1)
+settled-are k [] [] [] (p ∷ ps) h = absurd h
+settled-are k [] [] (t ∷ tolds) ps h = absurd h
+settled-are k [] (l ∷ lefts) tolds ps h = absurd h
+settled-are k (s ∷ ss) [] tolds ps h = absurd h
+settled-are k (s ∷ ss) (l ∷ lefts) [] ps h = absurd h
+settled-are k (s ∷ ss) (l ∷ lefts) (t ∷ tolds) [] h = absurd h
+
+pub posts-are : (asks : Bool) (k : ℕ) (ss : List Script) (lefts : List (List Command)) (tolds : List (List Told)) (ps : List Progress) → AreProgress asks k ss lefts tolds ps
     → posts_in tolds ≡ flat_map (λ (p : Progress). p.posts.items) ps
-posts-are k [] [] [] [] h = refl
-posts-are k (s ∷ ss) (l ∷ lefts) (t ∷ tolds) (p ∷ ps) h = ap₂ (λ xs ys. xs ++ ys) (sym h.0.posts) (posts-are (k + 1) ss lefts tolds ps h.1)
-posts-are k [] [] [] (p ∷ ps) h = absurd h
-posts-are k [] [] (t ∷ tolds) ps h = absurd h
-posts-are k [] (l ∷ lefts) tolds ps h = absurd h
-posts-are k (s ∷ ss) [] tolds ps h = absurd h
-posts-are k (s ∷ ss) (l ∷ lefts) [] ps h = absurd h
-posts-are k (s ∷ ss) (l ∷ lefts) (t ∷ tolds) [] h = absurd h
+posts-are asks k [] [] [] [] h = refl
+posts-are asks k (s ∷ ss) (l ∷ lefts) (t ∷ tolds) (p ∷ ps) h = ap₂ (λ xs ys. xs ++ ys) (sym h.0.posts) (posts-are asks (k + 1) ss lefts tolds ps h.1)
+posts-are asks k [] [] [] (p ∷ ps) h = absurd h
+posts-are asks k [] [] (t ∷ tolds) ps h = absurd h
+posts-are asks k [] (l ∷ lefts) tolds ps h = absurd h
+posts-are asks k (s ∷ ss) [] tolds ps h = absurd h
+posts-are asks k (s ∷ ss) (l ∷ lefts) [] ps h = absurd h
+posts-are asks k (s ∷ ss) (l ∷ lefts) (t ∷ tolds) [] h = absurd h
 
 -- nothing of these scripts was performed
-pub none-performed : (k : ℕ) (ss : List Script) (ps : List Progress) → length ps ≡ length ss → All (λ (p : Progress). (p.next ≡ 0) × (p.answers.items ≡ []) × (p.posts.items ≡ [])) ps
-    → AreProgress k ss (map (λ (s : Script). s.commands) ss) (map (λ (cs : List Command). []) (map (λ (s : Script). s.commands) ss)) ps
-none-performed k [] [] e all = tt
-none-performed k (s ∷ ss) (p ∷ ps) e all =
+pub none-performed : (asks : Bool) (k : ℕ) (ss : List Script) (ps : List Progress) → length ps ≡ length ss → All (λ (p : Progress). (p.next ≡ 0) × (p.answers.items ≡ []) × (p.posts.items ≡ [])) ps
+    → AreProgress asks k ss (map (λ (s : Script). s.commands) ss) (map (λ (cs : List Command). []) (map (λ (s : Script). s.commands) ss)) ps
+none-performed asks k [] [] e all = tt
+none-performed asks k (s ∷ ss) (p ∷ ps) e all =
     let one = all 0 p (omega arith) in (
       record {
         rest = ap (λ (n : ℕ). drop n s.commands) (sym one.0);
@@ -186,10 +223,10 @@ none-performed k (s ∷ ss) (p ∷ ps) e all =
         answers = one.1;
         posts = one.2;
       },
-      none-performed (k + 1) ss ps (same (length ps) (length ss) e) (λ i d lt. all (suc i) d (omega (arith, lt))),
+      none-performed asks (k + 1) ss ps (same (length ps) (length ss) e) (λ i d lt. all (suc i) d (omega (arith, lt))),
     )
   where
     same : (a b : ℕ) → suc a ≡ suc b → a ≡ b
     same a b e = omega (arith, e)
-none-performed k [] (p ∷ ps) e all = absurd (omega (arith, e))
-none-performed k (s ∷ ss) [] e all = absurd (omega (arith, e))
+none-performed asks k [] (p ∷ ps) e all = absurd (omega (arith, e))
+none-performed asks k (s ∷ ss) [] e all = absurd (omega (arith, e))

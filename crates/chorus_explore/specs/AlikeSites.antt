@@ -1,3 +1,4 @@
 pub mod Packets
 pub mod Journals
+pub mod Orders
 pub mod Places

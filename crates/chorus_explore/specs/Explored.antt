@@ -25,7 +25,7 @@ pub record IsExploration (c : Scene) (most : ℕ) (text : List ℕ) : Type 0 whe
   pub is : text ≡ report_text explored
   pub histories : List (List Move)
   pub count : explored.histories ≡ told_number (length histories)
-  pub events : (explored.events ≤ most) × CarriesOut (race_of c) explored
+  pub events : (explored.events ≤ most) × CarriesOut false (race_of c) explored
   pub some : ExploresSome (race_of c) (comes c) histories (map found_of explored.findings.items.items)
   pub bounded : (h : List Move) → IsWhole (race_of c) h → length h < explored.bound → Contains histories h
   pub within : All (λ (h : List Move). length h ≤ explored.bound) histories

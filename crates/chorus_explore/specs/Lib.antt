@@ -7,4 +7,6 @@ pub mod Explored
 pub mod Checked
 pub mod Ends
 pub mod Shown
+pub mod Drawn
+pub mod Drawings
 pub mod AlikeSites

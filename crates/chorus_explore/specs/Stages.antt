@@ -1,10 +1,9 @@
 -- How far the sites and the scripts are behind moves.
--- c is a scenario, ms are moves, the latest first, k is the number of a script, told are the acts that answered, the
--- latest first.
+-- c is a scenario, ms are moves, the latest first, k is the number of a script, told is what answered, the latest first,
+-- asks says whether claims are asked.
 use Rattle.std.specs.Prelude.{ℕ, ◌≡◌, ◌≤◌, ◌+◌, ◌⊎◌, Bool, List, [], ◌∷◌, length, drop, reverse, Option, Some, IfSome, slice_get}
 use Rattle.std.specs.List.{All, flat_map, filter, filter_map}
 use Rattle.chorus_ui.specs.declared.limits.TheConstants.{CLOCK_LIMIT}
-use Rattle.chorus_entry.specs.declared.act.Act as acts
 use Rattle.chorus_entry.specs.declared.command.Command.{Command}
 use Rattle.chorus_entry.specs.declared.entry.Entry.{Entry}
 use Rattle.chorus_entry.specs.Places.{place_for}
@@ -12,8 +11,9 @@ use Rattle.law_network.specs.Calls.{just_started}
 use Rattle.law_network.specs.Network.{NetState, Event}
 use Rattle.law_explore.specs.declared.moves.Move.{Move}
 use Rattle.law_explore.specs.Search.{IsHistory, state_after}
-use Rattle.law_explore.specs.Races.{Position, event_of, seat_0, next_of, may_come, replaying}
-use Rattle.law_explore.specs.Outcome.{post_in, answers_from, outcome_after}
+use Rattle.law_explore.specs.Races.{Position, Told, event_of, seat_0, next_of, may_come, replaying}
+use Rattle.law_explore.specs.Outcome.{Fact, posted, outcome_after}
+use Rattle.law_explore.specs.Moment.{moment_after, next_fact}
 use Rattle.law_replay.specs.Shown.{race_of}
 use Rattle.chorus_scene.specs.Scene.{Scene, Script}
 use Rattle.chorus_net.specs.Sites.{SitesState, net}
@@ -22,7 +22,10 @@ use Rattle.chorus_replay.specs.Performing.{IsWornAt}
 use Rattle.chorus_explore.specs.declared.race_sites.Progress.{Progress}
 use Rattle.chorus_explore.specs.declared.race_sites.Stage.{Stage}
 use Rattle.explore_report.specs.Facts.{fact_line, outcome_lines}
+use Rattle.chorus_explore.specs.Tellings.{answers_by}
 use Rattle.explore_report.specs.Outcomes.{message_lines}
+use Rattle.explore_moments.specs.Moments.{post_lines}
+use Rattle.law_machine.specs.PlaceState.{PlaceState}
 
 -- where the moves lead
 abbrev pub position : Scene → List Move → Position
@@ -36,25 +39,29 @@ may_go c m ms = may_come (race_of c).net.layout m (position c ms)
 abbrev pub comes : Scene → List Move → List ℕ
 comes c ms = outcome_lines (outcome_after (race_of c) ms)
 
+-- the lines of what is so where the moves lead, as claims speak of it
+abbrev pub facts_at : Scene → List Move → List ℕ
+facts_at c ms = outcome_lines (moment_after (race_of c) ms)
+
 -- a script of which so many commands were performed
-pub record IsProgress (k : ℕ) (all left : List Command) (told : List acts.Act) (p : Progress) : Type 0 where
+pub record IsProgress (asks : Bool) (k : ℕ) (all left : List Command) (told : List Told) (p : Progress) : Type 0 where
   pub rest : left ≡ drop p.next all
   pub few : p.next ≤ length all
   pub count : length told ≡ p.next
-  pub answers : p.answers.items ≡ flat_map fact_line (answers_from k 1 (reverse told))
-  pub posts : p.posts.items ≡ filter_map post_in (reverse told)
+  pub answers : p.answers.items ≡ flat_map fact_line (answers_by asks k 1 (reverse told))
+  pub posts : p.posts.items ≡ filter_map posted (reverse told)
 
 -- those of all scripts, from script k on
-abbrev pub AreProgress : ℕ → List Script → List (List Command) → List (List acts.Act) → List Progress → Type 0
-AreProgress k [] [] [] [] = Unit {0}
-AreProgress k (s ∷ ss) (left ∷ lefts) (told ∷ tolds) (p ∷ ps) =
-    IsProgress k s.commands left told p × AreProgress (k + 1) ss lefts tolds ps
-AreProgress _ _ _ _ _ = ⊥
+abbrev pub AreProgress : Bool → ℕ → List Script → List (List Command) → List (List Told) → List Progress → Type 0
+AreProgress asks k [] [] [] [] = Unit {0}
+AreProgress asks k (s ∷ ss) (left ∷ lefts) (told ∷ tolds) (p ∷ ps) =
+    IsProgress asks k s.commands left told p × AreProgress asks (k + 1) ss lefts tolds ps
+AreProgress _ _ _ _ _ _ = ⊥
 
 -- the sites and the scripts are where the moves lead
 pub record AreAt (c : Scene) (ms : List Move) (s : Stage) : Type 0 where
   pub net : net s.sites ≡ (position c ms).net
-  pub scripts : AreProgress 1 c.scripts (position c ms).left (position c ms).told s.scripts.items
+  pub scripts : AreProgress s.asks 1 c.scripts (position c ms).left (position c ms).told s.scripts.items
 
 -- and the stage has these moves, which are a history
 abbrev pub moves_of : Stage → List Move
@@ -76,9 +83,9 @@ AreFresh c sites = IfSome sites (λ s. net s ≡ just_started c.layout)
 abbrev pub AreSpare : Scene → List SitesState → Type 0
 AreSpare c spare = All (λ (s : SitesState). net s ≡ just_started c.layout) spare
 
--- the stage, if there is one, is where its moves lead
-abbrev pub IsReachedIf : Scene → Option Stage → Type 0
-IsReachedIf c kept = IfSome kept (λ s. IsReached c s)
+-- the stage, if there is one, is where its moves lead, and of a search that asks claims, or not
+abbrev pub IsReachedIf : Bool → Scene → Option Stage → Type 0
+IsReachedIf asks c kept = IfSome kept (λ s. IsReached c s × (s.asks ≡ asks))
 
 -- a clock is worn on the way of a replay of the text, or behind a history, by a move that may come there
 pub record WearsBehind (c : Scene) (clock : ℕ) : Type 0 where
@@ -112,3 +119,16 @@ pub record IsOfScript (c : Scene) (i : ℕ) (d : Command) : Type 0 where
 abbrev pub IsPlaceFor : Scene → ℕ → Command → ℕ → Type 0
 IsPlaceFor c i d place =
     (script : Script) → slice_get c.scripts i ≡ Some script → place ≡ place_for c.layout script.actor d
+
+-- the same, as claims speak of them
+abbrev pub asked_lines : List PlaceState → Progress → List ℕ
+asked_lines ps p = flat_map (post_lines ps) p.posts.items
+
+-- the line of the next command of script i, counted from 0, where one is left behind the moves
+abbrev pub next_by : ℕ → Option (List Command) → Option (List Command) → List Fact
+next_by k (Some all) (Some left) = next_fact k all left
+next_by k _ _ = []
+
+abbrev pub next_line : Scene → List Move → ℕ → List ℕ
+next_line c ms i =
+    outcome_lines (next_by (i + 1) (slice_get (race_of c).scripts i) (slice_get (position c ms).left i))

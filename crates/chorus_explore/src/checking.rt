@@ -12,9 +12,9 @@ use chorus_scene::Scenario;
 use explore_report::Explored;
 use std::alloc::Global;
 
-/// Goes over the schedules of the scenario, and carries out so many events at most: gives what was found of each claim. No
-/// outcome is kept but the first that does not meet a claim, a claim that failed is not asked again, and where all have failed
-/// the search ends.
+/// Goes over the schedules of the scenario, and carries out so many events at most: gives what was found of each claim, which is asked
+/// at the end of each schedule, or, with `throughout`, at each moment. Nothing is kept but the first moment at which a claim is not met,
+/// a claim that failed is not asked again, and where all have failed the search ends.
 ///
 /// Worn comes only where a schedule wears that clock; want of memory is free.
 pub fn check_scenario(

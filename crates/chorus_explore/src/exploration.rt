@@ -5,7 +5,7 @@ ghost use Rattle.chorus_explore.specs.declared.exploration.ExploreFault.TheVaria
 ghost use Rattle.law_replay.specs.Shown.{race_of};
 ghost use Rattle.chorus_explore.specs.Events.{CarriesOut};
 ghost use Rattle.chorus_explore.specs.Explored.{IsExploration};
-ghost use Rattle.chorus_explore.specs.Searches.{IsOver};
+ghost use Rattle.chorus_explore.specs.Searches.{IsOver, asks_of};
 ghost use Rattle.chorus_explore.specs.Stages.{MayWear};
 
 use crate::level_search::{Asked, go_over};
@@ -57,7 +57,8 @@ pub(crate) fn search(
 ) -> Result<Explored, ExploreFault>
     requires { asked.now.most < 2 ^ 32 }
     ensures over { IfOk result (λ explored. IsOver scenario.now asked.now explored) }
-    ensures carried { IfOk result (λ explored. CarriesOut (race_of scenario.now) explored) }
+    ensures carried { IfOk result (λ explored.
+        CarriesOut (asks_of asked.now) (race_of scenario.now) explored) }
     ensures worn { (clock : ℕ) → IsErrOf result (ExploreFault.Worn clock) →
         MayWear scenario.now clock }
 {

@@ -34,7 +34,8 @@ pub fn replays_meet_claims()
     ensures { ReplaysMeetClaims }
 {}
 
-/// The schedule of a claim that fails is replayed, unless a clock is worn, to the network of a history that does not meet it.
+/// The schedule of a claim that fails, also where it was drawn, is replayed, unless a clock is worn, to the network of a history
+/// that does not meet it; where the claim is asked at each moment, that history goes on from where it is not met.
 pub fn failures_are_replayed()
     ensures { FailuresAreReplayed }
 {}

@@ -1,7 +1,7 @@
 //! The search. It goes level by level: all histories of a level have as many moves, and those that come alike are one
 //! class.
 
-ghost use Rattle.std.specs.Prelude.{◌≡◌, ◌≢◌, ℕ, suc, ◌<◌, ◌^◌, List, [], length, true, false, reverse, Ok, IfOk, OnOk, IsErrOf, IfSome, Some};
+ghost use Rattle.std.specs.Prelude.{◌≡◌, ◌≢◌, ℕ, Bool, suc, ◌<◌, ◌^◌, List, [], length, true, false, reverse, Ok, IfOk, OnOk, IsErrOf, IfSome, Some};
 ghost use Rattle.chorus_place.specs.declared.fault.PlaceFault.TheVariants as PlaceFault;
 ghost use Rattle.law_explore.specs.Members.{Merged, going_by, going_on, next_members};
 ghost use Rattle.law_explore.specs.Merging.{ComeToldAlike};
@@ -11,11 +11,11 @@ ghost use Rattle.law_explore.specs.Races.{replaying};
 ghost use Rattle.law_replay.specs.Shown.{race_of};
 ghost use Rattle.chorus_scene.specs.Scene.{Scene};
 ghost use Rattle.explore_report.specs.Findings.{Counts, HaveSums};
-ghost use Rattle.chorus_explore.specs.declared.level_search.Asked.{Asked};
-ghost use Rattle.chorus_explore.specs.Classes.{AreClasses, IsClassOf, StandFor, StandsFor, moves_from, shown_by};
+ghost use Rattle.chorus_explore.specs.Classes.{AreClasses, IsClassOf, MakesClass, StandFor, StandsFor, moves_from, shown_by};
 ghost use Rattle.chorus_explore.specs.Events.{Carries, CarriesOut, SameEvents};
-ghost use Rattle.chorus_explore.specs.Searches.{Come, GoOn, IsEnough, IsOver, IsReady, IsWithin, LeadsThere};
-ghost use Rattle.chorus_explore.specs.Stages.{AreFresh, AreSpare, IsReached, IsReachedIf, MayWear, may_go, moves_of};
+ghost use Rattle.explore_report.specs.Judgements.{JudgesAll};
+ghost use Rattle.chorus_explore.specs.Searches.{Come, GoOn, IsEnough, IsOver, IsReady, IsWithin, LeadsThere, LeadsTo, asks_of};
+ghost use Rattle.chorus_explore.specs.Stages.{AreFresh, AreSpare, IsReached, IsReachedIf, MayWear, comes, facts_at, may_go, moves_of};
 ghost use Rattle.chorus_explore.specs.Tellings.{tells_of};
 
 use crate::race_sites::Stage;
@@ -23,7 +23,9 @@ use chorus_claims::Claim;
 use chorus_net::Sites;
 use chorus_place::PlaceFault;
 use chorus_scene::{STEPS_LIMIT, Scenario};
-use explore_report::{Explored, Findings, have_all_failed, judge_all, not_yet_judged};
+use explore_report::{
+    Explored, Findings, Judgement, have_all_failed, judge_all, not_yet_judged, want_moments,
+};
 use law_explore::Move;
 use std::alloc::{AllocError, Global};
 use std::mem;
@@ -70,7 +72,8 @@ pub(crate) fn go_over(
 ) -> Result<Explored, PlaceFault>
     requires { asked.now.most < 2 ^ 32 }
     ensures over { IfOk result (λ explored. IsOver scenario.now asked.now explored) }
-    ensures carried { IfOk result (λ explored. CarriesOut (race_of scenario.now) explored) }
+    ensures carried { IfOk result (λ explored.
+        CarriesOut (asks_of asked.now) (race_of scenario.now) explored) }
     ensures worn { (clock : ℕ) → IsErrOf result (PlaceFault.Worn clock) →
         MayWear scenario.now clock }
 {
@@ -92,7 +95,7 @@ pub(crate) fn go_over(
 impl Search {
     /// Begins the search: nothing was found, and the empty history is come to.
     fn begin(alloc: Global, scenario: &Scenario, asked: &Asked<'_>) -> Result<Search, PlaceFault>
-        ensures ready { IfOk result (λ search. IsReady scenario.now search) }
+        ensures ready { IfOk result (λ search. IsReady (asks_of asked.now) scenario.now search) }
         ensures begun { IfOk result (λ search. IsWithin scenario.now asked.now 0 [] search) }
         ensures none { IfOk result (λ search. search.explored.events ≡ 0) }
         ensures worn { (clock : ℕ) → IsErrOf result (PlaceFault.Worn clock) →
@@ -112,7 +115,7 @@ impl Search {
             last: None,
             spare: Vec::new(alloc),
         };
-        let stage = Stage::begin(alloc, scenario, None, 0)?;
+        let stage = Stage::begin(alloc, scenario, None, 0, !asked.tells)?;
         search.come_to(alloc, scenario, stage, 1, asked)?;
         Ok(search)
     }
@@ -126,11 +129,11 @@ impl Search {
         asked: &Asked<'_>,
     ) -> Result<bool, PlaceFault>
         requires level { AreClasses scenario.now level.now }
-        requires ready { IsReady scenario.now self.old }
+        requires ready { IsReady (asks_of asked.now) scenario.now self.old }
         requires most { asked.now.most < 2 ^ 32 }
-        ensures ready { OnOk result (IsReady scenario.now self.new) }
+        ensures ready { OnOk result (IsReady (asks_of asked.now) scenario.now self.new) }
         ensures go_on { (n : ℕ) (ms : List Merged) →
-            StandFor (race_of scenario.now) n level.now ms →
+            StandFor (asks_of asked.now) (race_of scenario.now) n level.now ms →
             GoOn scenario.now asked.now (suc n) (next_members (race_of scenario.now) ms)
             result self.old self.new }
         ensures carries { Carries (moves_from scenario.now level.now) result
@@ -159,12 +162,13 @@ impl Search {
         asked: &Asked<'_>,
     ) -> Result<bool, PlaceFault>
         requires history { IsHistory (replaying (race_of scenario.now)) (shown_by class.now) }
-        requires kept { IsReachedIf scenario.now kept }
-        requires ready { IsReady scenario.now self.old }
+        requires kept { IsReachedIf (asks_of asked.now) scenario.now kept }
+        requires ready { IsReady (asks_of asked.now) scenario.now self.old }
         requires most { asked.now.most < 2 ^ 32 }
-        ensures ready { OnOk result (IsReady scenario.now self.new) }
+        ensures ready { OnOk result (IsReady (asks_of asked.now) scenario.now self.new) }
         ensures go_on { (n : ℕ) (m : Merged) →
-            StandsFor (race_of scenario.now) n (shown_by class.now) class.now.number m →
+            StandsFor (asks_of asked.now) (race_of scenario.now) n (shown_by class.now)
+            class.now.number m →
             GoOn scenario.now asked.now (suc n)
             (going_on (next_behind (race_of scenario.now) (shown_by class.now)) m.members)
             result self.old self.new }
@@ -175,7 +179,7 @@ impl Search {
             MayWear scenario.now clock }
     {
         let kept = if_there(scenario, kept, &class.moves);
-        let mut stage = self.stage_there(alloc, scenario, &class.moves, kept)?;
+        let mut stage = self.stage_there(alloc, scenario, &class.moves, kept, asked)?;
         let moves = stage.next_moves(alloc, scenario)?;
         let mut kept = Some(stage);
         for index in 0..moves.len() {
@@ -199,12 +203,13 @@ impl Search {
     ) -> Result<bool, PlaceFault>
         requires history { IsHistory (replaying (race_of scenario.now)) (shown_by class.now) }
         requires may { may_go scenario.now mv (shown_by class.now) ≡ true }
-        requires kept { LeadsThere scenario.now class.now.moves.items kept }
-        requires ready { IsReady scenario.now self.old }
+        requires kept { LeadsThere (asks_of asked.now) scenario.now class.now.moves.items kept }
+        requires ready { IsReady (asks_of asked.now) scenario.now self.old }
         requires most { asked.now.most < 2 ^ 32 }
-        ensures ready { OnOk result (IsReady scenario.now self.new) }
+        ensures ready { OnOk result (IsReady (asks_of asked.now) scenario.now self.new) }
         ensures go_on { (n : ℕ) (m : Merged) →
-            StandsFor (race_of scenario.now) n (shown_by class.now) class.now.number m →
+            StandsFor (asks_of asked.now) (race_of scenario.now) n (shown_by class.now)
+            class.now.number m →
             GoOn scenario.now asked.now (suc n) (going_by mv m.members) result self.old self.new }
         ensures carries { Carries 1 result self.old.explored self.new.explored }
         ensures worn { (clock : ℕ) → IsErrOf result (PlaceFault.Worn clock) →
@@ -214,7 +219,7 @@ impl Search {
             self.explored.is_cut = true;
             return Ok(false);
         }
-        let mut stage = self.stage_there(alloc, scenario, &class.moves, kept)?;
+        let mut stage = self.stage_there(alloc, scenario, &class.moves, kept, asked)?;
         stage.go(scenario, mv)?;
         self.explored.events += 1;
         self.come_to(alloc, scenario, stage, class.number, asked)?;
@@ -239,11 +244,12 @@ impl Search {
         scenario: &Scenario,
         moves: &[Move],
         kept: Option<Stage>,
+        asked: &Asked<'_>,
     ) -> Result<Stage, PlaceFault>
         requires history { IsHistory (replaying (race_of scenario.now)) (reverse moves.now) }
-        requires kept { LeadsThere scenario.now moves.now kept }
+        requires kept { LeadsThere (asks_of asked.now) scenario.now moves.now kept }
         requires spare { AreSpare scenario.now self.old.spare.items }
-        ensures there { IfOk result (λ stage. LeadsThere scenario.now moves.now (Some stage)) }
+        ensures there { IfOk result (LeadsTo (asks_of asked.now) scenario.now moves.now) }
         ensures spare { AreSpare scenario.now self.new.spare.items }
         ensures kept { (self.new.explored ≡ self.old.explored) × (self.new.next ≡ self.old.next)
             × (self.new.last ≡ self.old.last) }
@@ -252,12 +258,12 @@ impl Search {
     {
         match kept {
             Some(stage) => Ok(stage),
-            None => again(alloc, scenario, moves, self.spare.pop()),
+            None => again(alloc, scenario, moves, self.spare.pop(), !asked.tells),
         }
     }
 
     /// The stage is come to, by so many histories: they are counted where nothing may come behind it, and else are put to
-    /// the class that is alike.
+    /// the class that is alike. Either way the claims are asked there.
     fn come_to(
         &mut self,
         alloc: Global,
@@ -267,10 +273,11 @@ impl Search {
         asked: &Asked<'_>,
     ) -> Result<(), PlaceFault>
         requires reached { IsReached scenario.now stage }
-        requires ready { IsReady scenario.now self.old }
-        ensures ready { OnOk result (IsReady scenario.now self.new) }
+        requires asks { stage.asks ≡ asks_of asked.now }
+        requires ready { IsReady (asks_of asked.now) scenario.now self.old }
+        ensures ready { OnOk result (IsReady (asks_of asked.now) scenario.now self.new) }
         ensures come { OnOk result ((n : ℕ) (m : Merged) →
-            StandsFor (race_of scenario.now) n (moves_of stage) number m →
+            StandsFor (asks_of asked.now) (race_of scenario.now) n (moves_of stage) number m →
             Come scenario.now asked.now n m.members self.old self.new) }
         ensures events { OnOk result (SameEvents self.old.explored self.new.explored) }
         ensures worn { (clock : ℕ) → IsErrOf result (PlaceFault.Worn clock) →
@@ -280,7 +287,7 @@ impl Search {
             self.end(alloc, scenario, stage, number, asked)?;
             Ok(())
         } else {
-            self.merge(alloc, scenario, stage, number)
+            self.merge(alloc, scenario, stage, number, asked)
         }
     }
 
@@ -294,41 +301,43 @@ impl Search {
         asked: &Asked<'_>,
     ) -> Result<(), AllocError>
         requires reached { IsReached scenario.now stage }
+        requires asks { stage.asks ≡ asks_of asked.now }
         requires end { next_behind (race_of scenario.now) (moves_of stage) ≡ [] }
-        requires ready { IsReady scenario.now self.old }
-        ensures ready { OnOk result (IsReady scenario.now self.new) }
+        requires ready { IsReady (asks_of asked.now) scenario.now self.old }
+        ensures ready { OnOk result (IsReady (asks_of asked.now) scenario.now self.new) }
         ensures come { OnOk result ((n : ℕ) (m : Merged) →
-            StandsFor (race_of scenario.now) n (moves_of stage) number m →
+            StandsFor (asks_of asked.now) (race_of scenario.now) n (moves_of stage) number m →
             Come scenario.now asked.now n m.members self.old self.new) }
         ensures events { OnOk result (SameEvents self.old.explored self.new.explored) }
     {
-        let moves = Vec::from_slice(alloc, &stage.moves)?;
-        let (text, sites) = stage.outcome(alloc)?;
+        let judged = &mut self.explored.judged;
+        judge_end(alloc, scenario, &stage, asked, judged)?;
+        let findings = &mut self.explored.findings;
+        let sites = tell_end(alloc, scenario, stage, number, asked, findings)?;
         self.spare.reserve(1)?;
         self.spare.push_reserved(sites);
-        let judged = &mut self.explored.judged;
-        judge_all(alloc, asked.claims, &text, &moves, judged)?;
-        let findings = &mut self.explored.findings;
-        add_if(alloc, asked.tells, text, &moves, number, findings)?;
         self.explored.histories = self.explored.histories.saturating_add(number);
         Ok(())
     }
 
-    /// Adds so many histories to the class that is alike, or makes one of them.
+    /// Adds so many histories to the class that is alike, or makes one of them, where the claims are asked that are asked at each
+    /// moment.
     fn merge(
         &mut self,
         alloc: Global,
         scenario: &Scenario,
         stage: Stage,
         number: u64,
+        asked: &Asked<'_>,
     ) -> Result<(), PlaceFault>
         requires reached { IsReached scenario.now stage }
+        requires asks { stage.asks ≡ asks_of asked.now }
         requires goes_on { next_behind (race_of scenario.now) (moves_of stage) ≢ [] }
-        requires ready { IsReady scenario.now self.old }
-        ensures ready { OnOk result (IsReady scenario.now self.new) }
-        ensures come { OnOk result ((asked : Asked) (n : ℕ) (m : Merged) →
-            StandsFor (race_of scenario.now) n (moves_of stage) number m →
-            Come scenario.now asked n m.members self.old self.new) }
+        requires ready { IsReady (asks_of asked.now) scenario.now self.old }
+        ensures ready { OnOk result (IsReady (asks_of asked.now) scenario.now self.new) }
+        ensures come { OnOk result ((n : ℕ) (m : Merged) →
+            StandsFor (asks_of asked.now) (race_of scenario.now) n (moves_of stage) number m →
+            Come scenario.now asked.now n m.members self.old self.new) }
         ensures events { OnOk result (SameEvents self.old.explored self.new.explored) }
         ensures worn { (clock : ℕ) → IsErrOf result (PlaceFault.Worn clock) →
             MayWear scenario.now clock }
@@ -340,12 +349,40 @@ impl Search {
                 self.next[index].number = self.next[index].number.saturating_add(number);
             }
             None => {
-                let moves = Vec::from_slice(alloc, &stage.moves)?;
-                self.next.reserve(1)?;
-                self.next.push_reserved(Class { moves, number, sum });
+                self.make_class(alloc, scenario, &stage, number, sum, asked)?;
             }
         }
         self.keep(alloc, stage, found.is_none())?;
+        Ok(())
+    }
+
+    /// Makes a class of so many histories that come to the stage, of this sum, and asks the claims there that are asked at each
+    /// moment.
+    fn make_class(
+        &mut self,
+        alloc: Global,
+        scenario: &Scenario,
+        stage: &Stage,
+        number: u64,
+        sum: u64,
+        asked: &Asked<'_>,
+    ) -> Result<(), AllocError>
+        requires reached { IsReached scenario.now stage.now }
+        requires asks { stage.now.asks ≡ asks_of asked.now }
+        ensures made { OnOk result (MakesClass stage.now.moves.items number
+            self.old.next.items self.new.next.items) }
+        ensures judged { OnOk result (asks_of asked.now ≡ true →
+            JudgesAll false asked.now.claims.now (facts_at scenario.now (moves_of stage.now))
+            (moves_of stage.now) self.old.explored.judged.items self.new.explored.judged.items) }
+        ensures explored { self.new.explored
+            ≡ record self.old.explored { judged = self.new.explored.judged } }
+        ensures kept { (self.new.last ≡ self.old.last) × (self.new.spare ≡ self.old.spare) }
+    {
+        let judged = &mut self.explored.judged;
+        judge_moment(alloc, scenario, stage, asked, judged)?;
+        let moves = Vec::from_slice(alloc, &stage.moves)?;
+        self.next.reserve(1)?;
+        self.next.push_reserved(Class { moves, number, sum });
         Ok(())
     }
 
@@ -353,7 +390,7 @@ impl Search {
     /// started again.
     fn keep(&mut self, alloc: Global, stage: Stage, is_last: bool) -> Result<(), AllocError>
         ensures ready { OnOk result ((c : Scene) → IsReached c stage →
-            IsReady c self.old → IsReady c self.new) }
+            IsReady stage.asks c self.old → IsReady stage.asks c self.new) }
         ensures kept { OnOk result ((self.new.explored ≡ self.old.explored)
             × (self.new.next ≡ self.old.next)) }
     {
@@ -371,37 +408,87 @@ impl Search {
     }
 }
 
-/// Counts so many histories for the outcome to which they come, where outcomes are told.
-fn add_if(
+/// Judges the claims where the stage is, behind which nothing may come, where no outcomes are told.
+fn judge_end(
     alloc: Global,
-    tells: bool,
-    text: Vec<u8>,
-    moves: &[Move],
-    number: u64,
-    findings: &mut Findings,
+    scenario: &Scenario,
+    stage: &Stage,
+    asked: &Asked<'_>,
+    judged: &mut Vec<Judgement>,
 ) -> Result<(), AllocError>
-    requires { HaveSums findings.old.items.items }
-    ensures counts { OnOk result (tells ≡ true → Counts text.items (reverse moves.now) number
-        findings.old.items.items findings.new.items.items) }
-    ensures sums { OnOk result (HaveSums findings.new.items.items) }
+    requires reached { IsReached scenario.now stage.now }
+    requires asks { stage.now.asks ≡ asks_of asked.now }
+    ensures { OnOk result (asks_of asked.now ≡ true → JudgesAll true asked.now.claims.now
+        (facts_at scenario.now (moves_of stage.now)) (moves_of stage.now)
+        judged.old.items judged.new.items) }
 {
-    if !tells {
+    if asked.tells {
         return Ok(());
     }
-    findings.add(alloc, text, moves, number)
+    let text = stage.facts(alloc, scenario)?;
+    judge_all(alloc, asked.claims, true, &text, &stage.moves, judged)
+}
+
+/// Judges the claims that are asked at each moment where the stage is, where no outcomes are told.
+fn judge_moment(
+    alloc: Global,
+    scenario: &Scenario,
+    stage: &Stage,
+    asked: &Asked<'_>,
+    judged: &mut Vec<Judgement>,
+) -> Result<(), AllocError>
+    requires reached { IsReached scenario.now stage.now }
+    requires asks { stage.now.asks ≡ asks_of asked.now }
+    ensures { OnOk result (asks_of asked.now ≡ true → JudgesAll false asked.now.claims.now
+        (facts_at scenario.now (moves_of stage.now)) (moves_of stage.now)
+        judged.old.items judged.new.items) }
+{
+    if asked.tells || !want_moments(asked.claims, judged) {
+        return Ok(());
+    }
+    let text = stage.facts(alloc, scenario)?;
+    judge_all(alloc, asked.claims, false, &text, &stage.moves, judged)
+}
+
+/// Counts so many histories for the outcome to which the stage comes, where outcomes are told; gives its sites, started again.
+fn tell_end(
+    alloc: Global,
+    scenario: &Scenario,
+    stage: Stage,
+    number: u64,
+    asked: &Asked<'_>,
+    findings: &mut Findings,
+) -> Result<Sites, AllocError>
+    requires reached { IsReached scenario.now stage }
+    requires asks { stage.asks ≡ asks_of asked.now }
+    requires sums { HaveSums findings.old.items.items }
+    ensures counts { OnOk result (asked.now.tells ≡ true →
+        Counts (comes scenario.now (moves_of stage)) (moves_of stage) number
+        findings.old.items.items findings.new.items.items) }
+    ensures sums { OnOk result (HaveSums findings.new.items.items) }
+    ensures fresh { IfOk result (λ sites. AreFresh scenario.now (Some sites)) }
+{
+    if !asked.tells {
+        return stage.restarted(alloc);
+    }
+    let moves = Vec::from_slice(alloc, &stage.moves)?;
+    let (text, sites) = stage.outcome(alloc)?;
+    findings.add(alloc, text, &moves, number)?;
+    Ok(sites)
 }
 
 /// The stage that the search has kept, where it is asked for; it is kept no more then.
 fn take_if(is_asked: bool, last: &mut Option<Stage>) -> Option<Stage>
-    ensures { (c : Scene) → IsReachedIf c last.old → IsReachedIf c result × IsReachedIf c last.new }
+    ensures { (asks : Bool) (c : Scene) → IsReachedIf asks c last.old →
+        IsReachedIf asks c result × IsReachedIf asks c last.new }
 {
     if is_asked { last.take() } else { None }
 }
 
 /// The stage that the search has kept, where these are the moves that led there.
 fn if_there(scenario: &Scenario, kept: Option<Stage>, moves: &[Move]) -> Option<Stage>
-    requires { IsReachedIf scenario.now kept }
-    ensures { LeadsThere scenario.now moves.now result }
+    ensures { (asks : Bool) → IsReachedIf asks scenario.now kept →
+        LeadsThere asks scenario.now moves.now result }
 {
     let _scene = scenario.layout();
     let Some(stage) = kept else {
@@ -434,14 +521,15 @@ fn again(
     scenario: &Scenario,
     moves: &[Move],
     fresh: Option<Sites>,
+    asks: bool,
 ) -> Result<Stage, PlaceFault>
     requires history { IsHistory (replaying (race_of scenario.now)) (reverse moves.now) }
     requires fresh { AreFresh scenario.now fresh }
-    ensures there { IfOk result (λ stage. LeadsThere scenario.now moves.now (Some stage)) }
+    ensures there { IfOk result (LeadsTo asks scenario.now moves.now) }
     ensures worn { (clock : ℕ) → IsErrOf result (PlaceFault.Worn clock) →
         MayWear scenario.now clock }
 {
-    let mut stage = Stage::begin(alloc, scenario, fresh, moves.len() + 1)?;
+    let mut stage = Stage::begin(alloc, scenario, fresh, moves.len() + 1, asks)?;
     for mv in moves {
         stage.go(scenario, *mv)?;
     }
@@ -461,7 +549,7 @@ fn class_of(
     requires reached { IsReached scenario.now stage.now }
     requires spare { AreSpare scenario.now spare.old.items }
     ensures some { IfOk result (λ found. IfSome found (λ index.
-        IsClassOf scenario.now classes.now index (moves_of stage.now))) }
+        IsClassOf stage.now.asks scenario.now classes.now index (moves_of stage.now))) }
     ensures spare { OnOk result (AreSpare scenario.now spare.new.items) }
     ensures worn { (clock : ℕ) → IsErrOf result (PlaceFault.Worn clock) →
         MayWear scenario.now clock }
@@ -489,13 +577,13 @@ fn lead_to_alike(
     requires history { IsHistory (replaying (race_of scenario.now)) (reverse moves.now) }
     requires reached { IsReached scenario.now stage.now }
     requires spare { AreSpare scenario.now spare.old.items }
-    ensures alike { IfOk result (λ alike. alike ≡ true → ComeToldAlike tells_of
+    ensures alike { IfOk result (λ alike. alike ≡ true → ComeToldAlike (tells_of stage.now.asks)
         (race_of scenario.now) (reverse moves.now) (moves_of stage.now)) }
     ensures spare { OnOk result (AreSpare scenario.now spare.new.items) }
     ensures worn { (clock : ℕ) → IsErrOf result (PlaceFault.Worn clock) →
         MayWear scenario.now clock }
 {
-    let other = again(alloc, scenario, moves, spare.pop())?;
+    let other = again(alloc, scenario, moves, spare.pop(), stage.asks)?;
     let alike = other.is_alike(scenario, stage)?;
     spare.reserve(1)?;
     spare.push_reserved(other.restarted(alloc)?);

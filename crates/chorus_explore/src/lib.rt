@@ -4,8 +4,9 @@
 //! command may be answered, which verdict each message may get, and what each port may hold at the end, each with a
 //! schedule that shows it. [`explore_scenario`] gives that text. A layer above rests on `specs/Ends.antt` and
 //! `specs/Explored.antt`, which say what is promised, and on `specs/Shown.antt`: what is shown is seen in a replay.
-//! [`check_scenario`] asks claims of the ends of those schedules in place of telling what they come to; `specs/Checked.antt` says
-//! what is promised of each claim, and that what holds is so at the end of every replay ([`replays_meet_claims`]).
+//! [`check_scenario`] asks claims of the ends of those schedules, or of each moment on their way, in place of telling what they come to;
+//! `specs/Checked.antt` says what is promised of each claim, and that what holds is so of every replay ([`replays_meet_claims`]).
+//! [`draw_scenario`] asks them of schedules that are drawn, where all are too many, as `specs/Drawn.antt` says.
 //!
 //! Begin with `exploration` and with `level_search`: level by level, with the histories put together that come
 //! alike, as `specs/Searches.antt` says. `race_sites` performs the moves, and `sums` picks whom to compare; `alike_sites`
@@ -14,6 +15,7 @@
 
 mod alike_sites;
 mod checking;
+mod drawing;
 mod exploration;
 mod exploring;
 mod laws;
@@ -22,6 +24,7 @@ mod race_sites;
 mod sums;
 
 pub use checking::check_scenario;
+pub use drawing::draw_scenario;
 pub use exploration::{ExploreFault, explore_scenario};
 pub use exploring::explore;
 pub use laws::{

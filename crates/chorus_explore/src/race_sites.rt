@@ -1,17 +1,18 @@
 //! The sites of a scenario behind its setup, on which the moves of a race are performed.
 
 ghost use Rattle.std.specs.List.{flat_map};
-ghost use Rattle.std.specs.Prelude.{◌≡◌, ℕ, ◌<◌, ◌≤◌, ◌+◌, ◌^◌, [], ◌∷◌, ◌++◌, true, length, map, option_to_list, slice_get, Ok, Some, None, IfOk, OnOk, IfSome, IsNone, IsErrOf};
+ghost use Rattle.std.specs.Prelude.{◌≡◌, ℕ, Bool, ◌<◌, ◌≤◌, ◌+◌, ◌^◌, [], ◌∷◌, ◌++◌, true, false, length, map, option_to_list, slice_get, Ok, Some, None, IfOk, OnOk, IfSome, IsNone, IsErrOf};
 ghost use Rattle.chorus_ui.specs.Layout.{has_place};
 ghost use Rattle.chorus_place.specs.declared.fault.PlaceFault.TheVariants as PlaceFault;
 ghost use Rattle.chorus_scene.specs.Limits.{Keeps};
 ghost use Rattle.law_explore.specs.declared.moves.Move.TheVariants as Move;
 ghost use Rattle.law_explore.specs.Merging.{ComeToldAlike};
-ghost use Rattle.law_explore.specs.Outcome.{Answered, post_in};
+ghost use Rattle.law_explore.specs.Moment.{next_facts};
+ghost use Rattle.law_explore.specs.Outcome.{post_in};
 ghost use Rattle.law_explore.specs.Positions.{next_behind};
 ghost use Rattle.law_explore.specs.Races.{links_between, links_to, next_of};
 ghost use Rattle.law_network.specs.Calls.{just_started};
-ghost use Rattle.law_network.specs.Network.{Act as Acting, happened, numbers, place as place_of, place_numbers};
+ghost use Rattle.law_network.specs.Network.{Act as Acting, happened, numbers, place as place_of, place_numbers, replied};
 ghost use Rattle.law_network.specs.Schedules.{may_happen};
 ghost use Rattle.law_replay.specs.Shown.{race_of};
 ghost use Rattle.chorus_merge.specs.Steps.{journals_of};
@@ -20,20 +21,25 @@ ghost use Rattle.chorus_explore.specs.declared.race_sites.Progress.{Progress};
 ghost use Rattle.chorus_net.specs.Sites.{net};
 ghost use Rattle.chorus_net.specs.Worn.{compared_by};
 ghost use Rattle.chorus_ui.specs.declared.limits.TheConstants.{CLOCK_LIMIT};
-ghost use Rattle.explore_report.specs.Facts.{fact_line};
-ghost use Rattle.chorus_explore.specs.Stages.{AreAt, AreFresh, AreProgress, IsNext, IsOfScript, IsPlaceFor, IsReached, MayWear, comes, coming, may_go, moves_of, position, posted_lines};
-ghost use Rattle.chorus_explore.specs.Tellings.{kept_of, tells_of};
+ghost use Rattle.std.specs.Option.{option_map};
+ghost use Rattle.explore_moments.specs.Moments.{states};
+ghost use Rattle.explore_report.specs.Facts.{outcome_lines};
+ghost use Rattle.chorus_explore.specs.Stages.{AreAt, AreFresh, AreProgress, IsNext, IsOfScript, IsPlaceFor, IsReached, MayWear, asked_lines, comes, coming, facts_at, may_go, moves_of, next_line, position, posted_lines};
+ghost use Rattle.chorus_explore.specs.Tellings.{answered_line, kept_of, settle_act, settles_in, tells_of};
 
 use crate::alike_sites::are_alike;
 use crate::sums::sum_of;
-use chorus_entry::{Act, Command, Entry, MsgId};
+use chorus_calls::Settle;
+use chorus_entry::{Act, Command, Entry, MsgId, Tag};
 use chorus_net::Sites;
-use chorus_place::PlaceFault;
+use chorus_place::{Place, PlaceFault};
 use chorus_replay::{enter, set_up};
 use chorus_scene::Scenario;
 use chorus_ui::Layout;
-use explore_report::{push_all_ports, push_answered, push_messages};
+use explore_moments::{push_callers, push_groups, push_ports, push_posts, push_under_way};
+use explore_report::{push_all_ports, push_answered, push_messages, push_next, push_settled};
 use law_explore::Move;
+use law_machine::Reply;
 use std::alloc::{AllocError, Global};
 
 /// For so many bytes of an outcome, of the answers of a script, and for so many messages that it posts there is room at
@@ -56,18 +62,31 @@ pub(crate) struct Progress {
 }
 
 impl Progress {
-    /// Notes in the progress of the script of this number that one command more was performed, and answered
-    /// by the act.
-    fn answered(&mut self, script: u64, act: &Act) -> Result<(), AllocError>
+    /// Notes in the progress of the script of this number that one command more was performed, and answered by the act; where
+    /// claims are asked, also what a reply that it took settled.
+    fn answered(
+        &mut self,
+        script: u64,
+        act: &Act,
+        settles: Option<Act>,
+        asks: bool,
+    ) -> Result<(), AllocError>
         requires { self.old.next < 2 ^ 32 }
         ensures next { OnOk result (self.new.next ≡ self.old.next + 1) }
         ensures answers { OnOk result (self.new.answers.items ≡ self.old.answers.items
-            ++ fact_line (Answered script (self.old.next + 1) act.now)) }
+            ++ answered_line asks script (self.old.next + 1) act.now settles) }
         ensures posts { OnOk result (self.new.posts.items
             ≡ self.old.posts.items ++ option_to_list (post_in act.now)) }
     {
         self.next += 1;
-        push_answered(script, self.next as u64, act, &mut self.answers)?;
+        push_answer(
+            script,
+            self.next as u64,
+            act,
+            settles,
+            asks,
+            &mut self.answers,
+        )?;
         if let Act::Post { message, .. } = act {
             self.posts.reserve(1)?;
             self.posts.push_reserved(message.id);
@@ -96,6 +115,8 @@ pub(crate) struct Stage {
     sites: Sites,
     scripts: Vec<Progress>,
     pub(crate) moves: Vec<Move>,
+    /// Whether claims are asked, which see more than outcomes tell.
+    pub(crate) asks: bool,
 }
 
 impl Stage {
@@ -106,10 +127,12 @@ impl Stage {
         scenario: &Scenario,
         fresh: Option<Sites>,
         room: usize,
+        asks: bool,
     ) -> Result<Stage, PlaceFault>
         requires { AreFresh scenario.now fresh }
         ensures ok { IfOk result (λ stage. IsReached scenario.now stage
             × (stage.moves.items ≡ [])) }
+        ensures asks { IfOk result (λ stage. stage.asks ≡ asks) }
         ensures worn { (clock : ℕ) → IsErrOf result (PlaceFault.Worn clock) →
             MayWear scenario.now clock }
     {
@@ -121,6 +144,7 @@ impl Stage {
             sites,
             scripts,
             moves,
+            asks,
         })
     }
 
@@ -130,6 +154,7 @@ impl Stage {
         requires may { may_go scenario.now mv (moves_of self.old) ≡ true }
         ensures reached { OnOk result (IsReached scenario.now self.new) }
         ensures moves { OnOk result (self.new.moves.items ≡ self.old.moves.items ++ mv ∷ []) }
+        ensures asks { self.new.asks ≡ self.old.asks }
         ensures worn { (clock : ℕ) → IsErrOf result (PlaceFault.Worn clock) →
             MayWear scenario.now clock }
     {
@@ -148,7 +173,7 @@ impl Stage {
         requires may { may_go scenario.now (Move.Carry from to) (moves_of self.old) ≡ true }
         ensures at { OnOk result
             (AreAt scenario.now (Move.Carry from to ∷ moves_of self.old) self.new) }
-        ensures moves { self.new.moves ≡ self.old.moves }
+        ensures moves { (self.new.moves ≡ self.old.moves) × (self.new.asks ≡ self.old.asks) }
         ensures worn { (clock : ℕ) → IsErrOf result (PlaceFault.Worn clock) →
             MayWear scenario.now clock }
     {
@@ -161,7 +186,7 @@ impl Stage {
         requires reached { IsReached scenario.now self.old }
         requires may { may_go scenario.now (Move.Go index) (moves_of self.old) ≡ true }
         ensures at { OnOk result (AreAt scenario.now (Move.Go index ∷ moves_of self.old) self.new) }
-        ensures moves { self.new.moves ≡ self.old.moves }
+        ensures moves { (self.new.moves ≡ self.old.moves) × (self.new.asks ≡ self.old.asks) }
         ensures worn { (clock : ℕ) → IsErrOf result (PlaceFault.Worn clock) →
             MayWear scenario.now clock }
     {
@@ -194,16 +219,17 @@ impl Stage {
         requires next { IsNext scenario.now (moves_of self.old) index command.now }
         requires may { may_happen (Acting (index + 1) command.now) (net self.old.sites) ≡ true }
         ensures at { OnOk result (AreAt scenario.now (Move.Go index ∷ moves_of self.old) self.new) }
-        ensures moves { self.new.moves ≡ self.old.moves }
+        ensures moves { (self.new.moves ≡ self.old.moves) × (self.new.asks ≡ self.old.asks) }
         ensures worn { (clock : ℕ) → IsErrOf result (PlaceFault.Worn clock) →
             MayWear scenario.now clock }
     {
         let _sites = self.sites.layout();
         let _scene = scenario.layout();
         let place = where_performed(scenario, index, command);
-        let at = act_at(&mut self.sites, u32::from(index) + 1, command, place)?;
+        let (at, settles) = act_at(&mut self.sites, u32::from(index) + 1, command, place)?;
         let act = &self.sites.journal(place)[at].act;
-        self.scripts[usize::from(index)].answered(u64::from(index) + 1, act)?;
+        let script = &mut self.scripts[usize::from(index)];
+        script.answered(u64::from(index) + 1, act, settles, self.asks)?;
         Ok(())
     }
 
@@ -215,7 +241,7 @@ impl Stage {
     ) -> Result<Vec<Move>, AllocError>
         requires { IsReached scenario.now self.old }
         ensures reached { IsReached scenario.now self.new }
-        ensures moves { self.new.moves ≡ self.old.moves }
+        ensures moves { (self.new.moves ≡ self.old.moves) × (self.new.asks ≡ self.old.asks) }
         ensures items { IfOk result (λ v. v.items
             ≡ next_behind (race_of scenario.now) (moves_of self.old)) }
     {
@@ -230,15 +256,18 @@ impl Stage {
     pub(crate) fn is_alike(&self, scenario: &Scenario, other: &Stage) -> Result<bool, AllocError>
         requires one { IsReached scenario.now self.now }
         requires other { IsReached scenario.now other.now }
-        ensures { IfOk result (λ alike. alike ≡ true → ComeToldAlike tells_of
+        ensures { IfOk result (λ alike. alike ≡ true → ComeToldAlike (tells_of self.now.asks)
             (race_of scenario.now) (moves_of self.now) (moves_of other.now)) }
     {
+        if self.asks != other.asks {
+            return Ok(false);
+        }
         if !are_as_far(self.scripts.as_slice(), other.scripts.as_slice()) {
             return Ok(false);
         }
         let _layout = scenario.layout();
         let count = scenario.scripts().len() as u16;
-        let alike = are_alike(&self.sites, &other.sites, count)?;
+        let alike = are_alike(&self.sites, &other.sites, count, self.asks)?;
         Ok(alike)
     }
 
@@ -247,9 +276,61 @@ impl Stage {
         sum_of(&self.sites, self.scripts.as_slice())
     }
 
+    /// The lines of what is so where the moves of the stage lead, as claims speak of it.
+    pub(crate) fn facts(&self, alloc: Global, scenario: &Scenario) -> Result<Vec<u8>, AllocError>
+        requires reached { IsReached scenario.now self.now }
+        requires asks { self.now.asks ≡ true }
+        ensures { IfOk result (λ text. text.items ≡ facts_at scenario.now (moves_of self.now)) }
+    {
+        let _scene = scenario.layout();
+        let places = self.sites.places();
+        let count = scenario.scripts().len() as u16;
+        let mut text = Vec::with_capacity(alloc, OUTCOME_ROOM)?;
+        push_answers(&self.scripts, &mut text)?;
+        push_all_posts(alloc, &self.scripts, places, &mut text)?;
+        push_ports(alloc, places, &mut text)?;
+        push_under_way(places, self.sites.layout().places(), &mut text)?;
+        push_groups(places, &mut text)?;
+        push_callers(self.sites.callers(), count, &mut text)?;
+        self.push_next_commands(scenario, &mut text)?;
+        Ok(text)
+    }
+
+    /// Appends the line of the next command of each script that has one left.
+    fn push_next_commands(&self, scenario: &Scenario, text: &mut Vec<u8>) -> Result<(), AllocError>
+        requires { IsReached scenario.now self.now }
+        ensures { OnOk result (text.new.items ≡ text.old.items ++ outcome_lines
+            (next_facts 1 (race_of scenario.now).scripts
+            (position scenario.now (moves_of self.now)).left)) }
+    {
+        for index in 0..scenario.scripts().len() {
+            self.push_next_command(scenario, index, text)?;
+        }
+        Ok(())
+    }
+
+    /// Appends the line of the next command of the script, where one is left.
+    fn push_next_command(
+        &self,
+        scenario: &Scenario,
+        index: usize,
+        text: &mut Vec<u8>,
+    ) -> Result<(), AllocError>
+        requires reached { IsReached scenario.now self.now }
+        requires index { index < length scenario.now.scripts }
+        ensures { OnOk result (text.new.items
+            ≡ text.old.items ++ next_line scenario.now (moves_of self.now) index) }
+    {
+        let _layout = scenario.layout();
+        let Some(_) = self.left_of(scenario, index as u16) else {
+            return Ok(());
+        };
+        push_next(index as u64 + 1, self.scripts[index].next as u64 + 1, text)
+    }
+
     /// Gives the lines of what the moves of the stage came to, and the sites, started again.
     pub(crate) fn outcome(self, alloc: Global) -> Result<(Vec<u8>, Sites), AllocError>
-        ensures text { (c : Scene) → IsReached c self →
+        ensures text { (c : Scene) → IsReached c self → self.asks ≡ false →
             IfOk result (λ r. r.0.items ≡ comes c (moves_of self)) }
         ensures sites { (c : Scene) → IsReached c self →
             IfOk result (λ r. AreFresh c (Some r.1)) }
@@ -257,7 +338,7 @@ impl Stage {
         let (closed, sites) = self.sites.restart(alloc)?;
         let mut text = Vec::with_capacity(alloc, OUTCOME_ROOM)?;
         push_answers(&self.scripts, &mut text)?;
-        push_posts(&self.scripts, &closed.journals, &mut text)?;
+        push_posted(&self.scripts, &closed.journals, &mut text)?;
         push_all_ports(&closed.journals, &closed.ports, &mut text)?;
         Ok((text, sites))
     }
@@ -324,7 +405,7 @@ impl Stage {
     ) -> Result<(), AllocError>
         requires { IsReached scenario.now self.old }
         ensures reached { IsReached scenario.now self.new }
-        ensures moves { self.new.moves ≡ self.old.moves }
+        ensures moves { (self.new.moves ≡ self.old.moves) × (self.new.asks ≡ self.old.asks) }
         ensures items { OnOk result (moves.new.items ≡ moves.old.items
             ++ coming scenario.now (moves_of self.old)
             (links_between (place_numbers scenario.now.layout)
@@ -346,7 +427,7 @@ impl Stage {
         requires reached { IsReached scenario.now self.old }
         requires from { has_place scenario.now.layout from ≡ true }
         ensures reached { IsReached scenario.now self.new }
-        ensures moves { self.new.moves ≡ self.old.moves }
+        ensures moves { (self.new.moves ≡ self.old.moves) × (self.new.asks ≡ self.old.asks) }
         ensures items { OnOk result (moves.new.items ≡ moves.old.items
             ++ coming scenario.now (moves_of self.old)
             (links_to from (place_numbers scenario.now.layout))) }
@@ -372,7 +453,7 @@ impl Stage {
         requires from { has_place scenario.now.layout from ≡ true }
         requires to { has_place scenario.now.layout to ≡ true }
         ensures reached { IsReached scenario.now self.new }
-        ensures moves { self.new.moves ≡ self.old.moves }
+        ensures moves { (self.new.moves ≡ self.old.moves) × (self.new.asks ≡ self.old.asks) }
         ensures items { OnOk result (moves.new.items ≡ moves.old.items
             ++ coming scenario.now (moves_of self.old) (Move.Carry from to ∷ [])) }
     {
@@ -429,20 +510,76 @@ fn where_performed(scenario: &Scenario, index: u16, command: &Command) -> u16
 }
 
 /// Performs the command of the seat on the sites of a race, and gives where its own entry stands in the journal of its
-/// place.
-fn act_at(sites: &mut Sites, seat: u32, command: &Command, place: u16) -> Result<usize, PlaceFault>
+/// place, and what a reply that it took settled.
+fn act_at(
+    sites: &mut Sites,
+    seat: u32,
+    command: &Command,
+    place: u16,
+) -> Result<(usize, Option<Act>), PlaceFault>
     requires may { may_happen (Acting seat command.now) (net sites.old) ≡ true }
     requires place { has_place sites.old.layout place ≡ true }
     ensures ok { OnOk result (net sites.new ≡ happened (Acting seat command.now) (net sites.old)) }
-    ensures index { IfOk result (λ at. at ≡ length (place_of place (net sites.old)).journal) }
+    ensures index { IfOk result (λ r. r.0 ≡ length (place_of place (net sites.old)).journal) }
+    ensures settles { IfOk result (λ r. Some r.1
+        ≡ option_map settles_in (replied seat command.now (net sites.old))) }
     ensures layout { sites.new.layout ≡ sites.old.layout }
     ensures worn { (clock : ℕ) → IsErrOf result (PlaceFault.Worn clock) →
         (CLOCK_LIMIT ≤ clock)
         × (compared_by (Acting seat command.now) (net sites.old) ≡ Some clock) }
 {
     let at = sites.journal(place).len();
-    sites.act(seat, command.copied()?)?;
-    Ok(at)
+    let reply = sites.act(seat, command.copied()?)?;
+    Ok((at, settles_in(&reply)))
+}
+
+/// What the reply says of a message that was taken, where that is a reply: that it ended the caller's call, or came late.
+fn settles_in(reply: &Reply) -> Option<Act>
+    ensures { result ≡ settles_in reply.now }
+{
+    match reply {
+        Reply::Taken {
+            message,
+            settled,
+            ..
+        } => settle_act(&message.tag, *settled),
+        _ => None,
+    }
+}
+
+/// The same, of the tag of a message.
+fn settle_act(tag: &Tag, settled: Option<Settle>) -> Option<Act>
+    ensures { result ≡ settle_act tag.now settled }
+{
+    match tag {
+        Tag::Reply { number, .. } => match settled {
+            Some(Settle::Done) => Some(Act::Done { number: *number }),
+            Some(Settle::Late) => Some(Act::Late { number: *number }),
+            None => None,
+        },
+        _ => None,
+    }
+}
+
+/// Appends the line of how a command is answered: with what a reply that it took settled, where claims are asked.
+fn push_answer(
+    script: u64,
+    number: u64,
+    act: &Act,
+    settles: Option<Act>,
+    asks: bool,
+    text: &mut Vec<u8>,
+) -> Result<(), AllocError>
+    ensures { OnOk result (text.new.items
+        ≡ text.old.items ++ answered_line asks script number act.now settles) }
+{
+    if !asks {
+        return push_answered(script, number, act, text);
+    }
+    match settles {
+        Some(settles) => push_settled(script, number, act, &settles, text),
+        None => push_answered(script, number, act, text),
+    }
 }
 
 /// Appends the lines of what the commands of the scripts were answered.
@@ -456,8 +593,24 @@ fn push_answers(scripts: &[Progress], text: &mut Vec<u8>) -> Result<(), AllocErr
     Ok(())
 }
 
+/// Appends the lines of the messages that the scripts posted, as claims speak of them.
+fn push_all_posts(
+    alloc: Global,
+    scripts: &[Progress],
+    places: &[Place],
+    text: &mut Vec<u8>,
+) -> Result<(), AllocError>
+    ensures { OnOk result (text.new.items ≡ text.old.items
+        ++ flat_map (asked_lines (states places.now)) scripts.now) }
+{
+    for progress in scripts {
+        push_posts(alloc, &progress.posts, places, text)?;
+    }
+    Ok(())
+}
+
 /// Appends the lines of the messages that the scripts posted.
-fn push_posts(
+fn push_posted(
     scripts: &[Progress],
     journals: &[Vec<Entry>],
     text: &mut Vec<u8>,
@@ -498,7 +651,7 @@ fn entered(mut sites: Sites, scenario: &Scenario) -> Result<Sites, PlaceFault>
 
 /// How far each script is at first: nothing of it was performed.
 fn no_progress(alloc: Global, scenario: &Scenario) -> Result<Vec<Progress>, AllocError>
-    ensures { IfOk result (λ v. AreProgress 1 scenario.now.scripts
+    ensures { IfOk result (λ v. (asks : Bool) → AreProgress asks 1 scenario.now.scripts
         (position scenario.now []).left (position scenario.now []).told v.items) }
 {
     let mut scripts = Vec::new(alloc);

@@ -12,6 +12,7 @@ use Rattle.chorus_judge.specs.Output.{status_of}
 use Rattle.chorus_check.specs.declared.checked.Checked.{Checked}
 use Rattle.chorus_check.specs.Ends as checking
 use Rattle.chorus_check.specs.Ends.{ChecksBy, EndsAsCheck}
+use Rattle.chorus_check.specs.declared.schedules.Schedules.{Schedules}
 use Rattle.chorus_nucleus.specs.declared.nucleus.Nucleus.{Nucleus}
 use Rattle.chorus_report.specs.declared.finished.Finished.{Finished}
 use Rattle.chorus_words.specs.declared.words.Words.{Words}
@@ -57,23 +58,23 @@ module _ {S K : Type 0} (faults : S → ℕ) (reliable : S → Type 0) (from res
 
 -- And of a check.
 
-worn-checked : (l : Layout) (most : ℕ) (status : Status) (told old new : Option (List ℕ)) (clock : ℕ) → status ≡ Worn clock → ChecksBy l most (Err status) told old new → CLOCK_LIMIT ≤ clock
-worn-checked l most status told old new clock e h = (subst (λ (s : Status). ChecksBy l most (Err s) told old new) e h).worn
+worn-checked : (l : Layout) (schedules : Schedules) (status : Status) (told old new : Option (List ℕ)) (clock : ℕ) → status ≡ Worn clock → ChecksBy l schedules (Err status) told old new → CLOCK_LIMIT ≤ clock
+worn-checked l schedules status told old new clock e h = (subst (λ (s : Status). ChecksBy l schedules (Err s) told old new) e h).worn
 
-module _ {S K : Type 0} (most : ℕ) (left : S → Option (List ℕ)) (faults : S → ℕ) (reliable : S → Type 0) (from rest : S) (held : K → Option (List ℕ)) (failures : K → ℕ) (old new : K) where
-  check-causes : (given : Result Checked Status) → EndsAsCheck replay_layout most given left faults reliable from rest held failures old new → EndsWithCause (record { status = checking.status_of given; closed = None }) faults reliable from rest failures old new
+module _ {S K : Type 0} (schedules : Schedules) (left : S → Option (List ℕ)) (faults : S → ℕ) (reliable : S → Type 0) (from rest : S) (held : K → Option (List ℕ)) (failures : K → ℕ) (old new : K) where
+  check-causes : (given : Result Checked Status) → EndsAsCheck replay_layout schedules given left faults reliable from rest held failures old new → EndsWithCause (record { status = checking.status_of given; closed = None }) faults reliable from rest failures old new
   check-causes (Ok checked) h = done-causes faults reliable from rest failures old new h.reads.no_fault
   check-causes (Err status) h = record {
     read_fault = h.reads.read_fault;
     no_fault = h.reads.no_fault;
     steady = λ e. h.reads.steady (λ f. absurd (let bad : Memory ≡ ReadFault = sym e ∙ f in cc));
     write_fault = λ e. h.write_fault (ap (λ (s : Status). Err s) e);
-    worn = λ clock e. (worn-checked replay_layout most status (left from) (held old) (held new) clock e h.checks, tt);
+    worn = λ clock e. (worn-checked replay_layout schedules status (left from) (held old) (held new) clock e h.checks, tt);
     closed = λ some. absurd (false≢true some);
     unwritten = λ a b. h.unwritten.1 b;
   }
 
-  pub causes-checked : (finished : Finished) (given : Result Checked Status) → EndsAsChecked most given finished left faults reliable from rest held failures old new → EndsWithCause finished faults reliable from rest failures old new
+  pub causes-checked : (finished : Finished) (given : Result Checked Status) → EndsAsChecked schedules given finished left faults reliable from rest held failures old new → EndsWithCause finished faults reliable from rest failures old new
   causes-checked finished given h =
       subst (λ (f : Finished). EndsWithCause f faults reliable from rest failures old new) (sym h.is) (check-causes given h.checks)
 
@@ -90,7 +91,7 @@ module _ {S K : Type 0} (Finishes : Finished → Type 0) (c : Conclusion) (left 
 
   either-no-usage : (o : Option Inquiry) → ConcludesBy o Finishes c left faults reliable from rest held failures old new → (Finishes c.finished → c.finished.status ≡ Status.Usage → ⊥) → c.finished.status ≡ Status.Usage → ⊥
   either-no-usage (Some (Judge l)) h other is = judged-no-usage l h.given c.finished (left from) (left rest) (held old) (held new) h.ends is
-  either-no-usage (Some (Check most)) h other is = checked-no-usage c.finished left faults reliable from rest held failures old new most h.given h.ends is
+  either-no-usage (Some (Check schedules)) h other is = checked-no-usage c.finished left faults reliable from rest held failures old new schedules h.given h.ends is
   either-no-usage None h other is = other h.1 is
 
 module _ {S K : Type 0} (Finishes : Finished → Type 0) (c : Conclusion) (is : c ≡ end_as Memory) (left : S → Option (List ℕ)) (faults : S → ℕ) (reliable : S → Type 0) (from : S) (held : K → Option (List ℕ)) (failures : K → ℕ) (old : K) where
@@ -102,7 +103,7 @@ module _ {S K : Type 0} (Finishes : Finished → Type 0) (c : Conclusion) (is : 
 
   either-none : (o : Option Inquiry) → (o ≡ None → Finishes c.finished) → ConcludesBy o Finishes c left faults reliable from from held failures old old
   either-none (Some (Judge l)) other = record { given = Err Memory; verdict = no-verdict; ends = judged-none l c.finished ends-none (left from) (held old) }
-  either-none (Some (Check most)) other = record { given = Err Memory; verdict = no-verdict; ends = checked-none c.finished ends-none left faults reliable from held failures old most }
+  either-none (Some (Check schedules)) other = record { given = Err Memory; verdict = no-verdict; ends = checked-none c.finished ends-none left faults reliable from held failures old schedules }
   either-none None other = (no-verdict, other refl)
 
 module _ {S K : Type 0} (c : Conclusion) (left : S → Option (List ℕ)) (faults : S → ℕ) (reliable : S → Type 0) (from rest : S) (held : K → Option (List ℕ)) (failures : K → ℕ) (old new : K) where
@@ -128,6 +129,7 @@ module _ {S K : Type 0} (c : Conclusion) (left : S → Option (List ℕ)) (fault
   concluded-is-done n (words.JudgeFor sites turns) h = (h.given, h.ends)
   concluded-is-done n words.Check h = (h.given, h.ends)
   concluded-is-done n (words.CheckMost most) h = (h.given, h.ends)
+  concluded-is-done n (words.CheckDrawn count first) h = (h.given, h.ends)
   concluded-is-done n asked h = h.1
 
 -- Where there was no memory, nothing was read or written.

@@ -36,6 +36,8 @@ use Rattle.chorus_words.specs.declared.words.TheConstants.{CHECK_MOST, EXPLORE_M
 use Rattle.chorus_words.specs.declared.words.Words.{Words}
 use Rattle.chorus_words.specs.declared.words.Words.TheVariants as words
 use Rattle.chorus_program.specs.declared.running.TheConstants.{PROGRAM_SITES}
+use Rattle.chorus_check.specs.declared.schedules.Schedules.{Schedules}
+use Rattle.chorus_check.specs.declared.schedules.Schedules.TheVariants.{All, Drawn}
 use Rattle.chorus_program.specs.Running.{layout_asked, places_each, replay_layout, Does, DoesOnOneThread, EndsAsAudit, EndsAsChecked, EndsAsExplored, EndsAsJudge, EndsAsLossy, EndsAsPicture, EndsUnreadAsLoad, EndsWithCause, Suits}
 use Rattle.chorus_program.specs.Started.{DoesOnOwn, DoesOnStarted}
 
@@ -170,8 +172,8 @@ module _ {S K : Type 0} (f : Finished) (is : f ≡ record { status = Memory; clo
     };
   }
 
-  pub checked-none : (most : ℕ) → EndsAsChecked most (Err Memory) f left faults reliable from from held failures old old
-  checked-none most = record {
+  pub checked-none : (schedules : Schedules) → EndsAsChecked schedules (Err Memory) f left faults reliable from from held failures old old
+  checked-none schedules = record {
     is = is;
     checks = record {
       reads = ends-memory replay_layout left faults reliable from from refl read-none;
@@ -187,8 +189,9 @@ module _ {S K : Type 0} (f : Finished) (is : f ≡ record { status = Memory; clo
   one-thread-none (words.RunOn turns) same = cc
   one-thread-none (words.Load first commands) same = record { unread = refl; loads = loads-none f is held failures old first commands }
   one-thread-none (words.Audit sites turns) same = audits-none (places_each sites turns)
-  one-thread-none words.Check same = (Err Memory, checked-none CHECK_MOST)
-  one-thread-none (words.CheckMost most) same = (Err Memory, checked-none most)
+  one-thread-none words.Check same = (Err Memory, checked-none (All CHECK_MOST))
+  one-thread-none (words.CheckMost most) same = (Err Memory, checked-none (All most))
+  one-thread-none (words.CheckDrawn count first) same = (Err Memory, checked-none (Drawn count first))
   one-thread-none words.Judge same = (Err Memory, judged-none None f is (left from) (held old))
   one-thread-none (words.JudgeFor sites turns) same = (Err Memory, judged-none (Some (places_each sites turns)) f is (left from) (held old))
   one-thread-none (words.Picture sites turns) same = draws-none (places_each sites turns)
@@ -206,6 +209,7 @@ module _ {S K : Type 0} (f : Finished) (is : f ≡ record { status = Memory; clo
   does-none n (words.Audit sites turns) = one-thread-none (words.Audit sites turns) refl
   does-none n words.Check = one-thread-none words.Check refl
   does-none n (words.CheckMost most) = one-thread-none (words.CheckMost most) refl
+  does-none n (words.CheckDrawn count first) = one-thread-none (words.CheckDrawn count first) refl
   does-none n words.Judge = one-thread-none words.Judge refl
   does-none n (words.JudgeFor sites turns) = one-thread-none (words.JudgeFor sites turns) refl
   does-none n (words.Picture sites turns) = one-thread-none (words.Picture sites turns) refl
@@ -227,8 +231,8 @@ replays-at l m f left faults reliable from rest held failures old new same h = s
 -- What is done has its cause, and is no Usage.
 
 module _ {S K : Type 0} (f : Finished) (left : S → Option (List ℕ)) (faults : S → ℕ) (reliable : S → Type 0) (from rest : S) (held : K → Option (List ℕ)) (failures : K → ℕ) (old new : K) where
-  pub checked-no-usage : (most : ℕ) (given : Result Checked Status) → EndsAsChecked most given f left faults reliable from rest held failures old new → f.status ≡ Status.Usage → ⊥
-  checked-no-usage most given h is = h.checks.reads.usage (sym (ap (λ (x : Finished). x.status) h.is) ∙ is)
+  pub checked-no-usage : (schedules : Schedules) (given : Result Checked Status) → EndsAsChecked schedules given f left faults reliable from rest held failures old new → f.status ≡ Status.Usage → ⊥
+  checked-no-usage schedules given h is = h.checks.reads.usage (sym (ap (λ (x : Finished). x.status) h.is) ∙ is)
 
   no-usage-on-one : (asked : Words) → DoesOnOneThread asked f left faults reliable from rest held failures old new → f.status ≡ Status.Usage → ⊥
   no-usage-on-one words.Replay d is = d.reads.usage is
@@ -236,8 +240,9 @@ module _ {S K : Type 0} (f : Finished) (left : S → Option (List ℕ)) (faults 
   no-usage-on-one (words.RunOn turns) d is = d
   no-usage-on-one (words.Load first commands) d is = subst EndsUnread is d.loads.status
   no-usage-on-one (words.Audit sites turns) d is = subst (λ s. ReadsBy s (left from) (left rest)) is d.reads
-  no-usage-on-one words.Check d is = checked-no-usage CHECK_MOST d.0 d.1 is
-  no-usage-on-one (words.CheckMost most) d is = checked-no-usage most d.0 d.1 is
+  no-usage-on-one words.Check d is = checked-no-usage (All CHECK_MOST) d.0 d.1 is
+  no-usage-on-one (words.CheckMost most) d is = checked-no-usage (All most) d.0 d.1 is
+  no-usage-on-one (words.CheckDrawn count first) d is = checked-no-usage (Drawn count first) d.0 d.1 is
   no-usage-on-one words.Judge d is = judged-no-usage None d.0 f (left from) (left rest) (held old) (held new) d.1 is
   no-usage-on-one (words.JudgeFor sites turns) d is = judged-no-usage (Some (places_each sites turns)) d.0 f (left from) (left rest) (held old) (held new) d.1 is
   no-usage-on-one (words.Picture sites turns) d is = subst (λ s. picture.ReadsBy (places_each sites turns) s (left from) (left rest)) is d.reads
@@ -255,6 +260,7 @@ module _ {S K : Type 0} (f : Finished) (left : S → Option (List ℕ)) (faults 
   with-any n (words.Audit sites turns) d = d
   with-any n words.Check d = d
   with-any n (words.CheckMost most) d = d
+  with-any n (words.CheckDrawn count first) d = d
   with-any n words.Judge d = d
   with-any n (words.JudgeFor sites turns) d = d
   with-any n (words.Picture sites turns) d = d
@@ -272,6 +278,7 @@ module _ {S K : Type 0} (f : Finished) (left : S → Option (List ℕ)) (faults 
   no-usage n (words.Audit sites turns) d is = no-usage-on-one (words.Audit sites turns) d is
   no-usage n words.Check d is = no-usage-on-one words.Check d is
   no-usage n (words.CheckMost most) d is = no-usage-on-one (words.CheckMost most) d is
+  no-usage n (words.CheckDrawn count first) d is = no-usage-on-one (words.CheckDrawn count first) d is
   no-usage n words.Judge d is = no-usage-on-one words.Judge d is
   no-usage n (words.JudgeFor sites turns) d is = no-usage-on-one (words.JudgeFor sites turns) d is
   no-usage n (words.Picture sites turns) d is = no-usage-on-one (words.Picture sites turns) d is
@@ -300,6 +307,7 @@ suits n (words.Load first commands) same = tt
 suits n (words.Audit sites turns) same = tt
 suits n words.Check same = tt
 suits n (words.CheckMost most) same = tt
+suits n (words.CheckDrawn count first) same = tt
 suits n words.Judge same = tt
 suits n (words.JudgeFor sites turns) same = tt
 suits n (words.Picture sites turns) same = tt

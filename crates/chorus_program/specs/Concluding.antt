@@ -10,6 +10,8 @@ use Rattle.chorus_judge.specs.declared.judgement.Judgement.{Judgement}
 use Rattle.chorus_judge.specs.Judgements.{judgement_number}
 use Rattle.chorus_check.specs.declared.checked.Checked.{Checked}
 use Rattle.chorus_check.specs.declared.checked.Checked.TheVariants.{Fails, Holds, Open}
+use Rattle.chorus_check.specs.declared.schedules.Schedules.{Schedules}
+use Rattle.chorus_check.specs.declared.schedules.Schedules.TheVariants.{All, Drawn}
 use Rattle.chorus_check.specs.Words.{checked_number}
 use Rattle.chorus_nucleus.specs.declared.nucleus.Nucleus.{Nucleus}
 use Rattle.chorus_report.specs.declared.finished.Finished.{Finished}
@@ -29,8 +31,9 @@ use Rattle.chorus_program.specs.Started.{DoesOnOwn}
 abbrev pub inquiry_in : Words → Option Inquiry
 inquiry_in words.Judge = Some (Judge None)
 inquiry_in (words.JudgeFor sites turns) = Some (Judge (Some (places_each sites turns)))
-inquiry_in words.Check = Some (Check CHECK_MOST)
-inquiry_in (words.CheckMost most) = Some (Check most)
+inquiry_in words.Check = Some (Check (All CHECK_MOST))
+inquiry_in (words.CheckMost most) = Some (Check (All most))
+inquiry_in (words.CheckDrawn count first) = Some (Check (Drawn count first))
 inquiry_in asked = None
 
 -- the end where nothing was found or closed
@@ -55,20 +58,20 @@ pub record ConcludesAsJudge (asked : Option Layout) (conclusion : Conclusion)
   pub ends : EndsAsJudge asked given conclusion.finished left rest old new
 
 -- this was found of the claims of the scenario that was read, and it is what the check came to
-pub record ConcludesAsCheck {S K : Type 0} (most : ℕ) (conclusion : Conclusion)
+pub record ConcludesAsCheck {S K : Type 0} (schedules : Schedules) (conclusion : Conclusion)
     (left : S → Option (List ℕ)) (faults : S → ℕ) (reliable : S → Type 0) (from rest : S)
     (held : K → Option (List ℕ)) (failures : K → ℕ) (old new : K) : Type 0 where
   pub given : Result Checked Status
   pub verdict : conclusion.verdict ≡ checked_in given
-  pub ends : EndsAsChecked most given conclusion.finished left faults reliable from rest held failures old new
+  pub ends : EndsAsChecked schedules given conclusion.finished left faults reliable from rest held failures old new
 
 abbrev pub Answers : {S K : Type 0} → Inquiry → Conclusion
     → (S → Option (List ℕ)) → (S → ℕ) → (S → Type 0) → S → S
     → (K → Option (List ℕ)) → (K → ℕ) → K → K → Type 0
 Answers (Judge asked) conclusion left faults reliable from rest held failures old new =
     ConcludesAsJudge asked conclusion (left from) (left rest) (held old) (held new)
-Answers (Check most) conclusion left faults reliable from rest held failures old new =
-    ConcludesAsCheck most conclusion left faults reliable from rest held failures old new
+Answers (Check schedules) conclusion left faults reliable from rest held failures old new =
+    ConcludesAsCheck schedules conclusion left faults reliable from rest held failures old new
 
 -- what is asked is answered; where nothing is, nothing is found, and so it ends
 abbrev pub ConcludesBy : {S K : Type 0} → Option Inquiry → (Finished → Type 0) → Conclusion

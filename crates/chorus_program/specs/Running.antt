@@ -11,6 +11,8 @@ use Rattle.chorus_judge.specs.Output.{Judges, status_of}
 use Rattle.chorus_check.specs.declared.checked.Checked.{Checked}
 use Rattle.chorus_check.specs.Ends as checking
 use Rattle.chorus_check.specs.Ends.{EndsAsCheck}
+use Rattle.chorus_check.specs.declared.schedules.Schedules.{Schedules}
+use Rattle.chorus_check.specs.declared.schedules.Schedules.TheVariants.{All, Drawn}
 use Rattle.chorus_picture.specs.Output as picture
 use Rattle.chorus_picture.specs.Output.{Draws}
 use Rattle.chorus_explore.specs.Ends.{EndsAsExplore}
@@ -105,11 +107,11 @@ pub record EndsAsExplored {S K : Type 0} (most : ℕ) (finished : Finished) (lef
   pub explores : EndsAsExplore replay_layout most finished.status left faults reliable from rest held failures old new
 
 -- nothing was closed, this was found of the claims of the scenario that was read, and the text that says it was written
-pub record EndsAsChecked {S K : Type 0} (most : ℕ) (given : Result Checked Status) (finished : Finished)
+pub record EndsAsChecked {S K : Type 0} (schedules : Schedules) (given : Result Checked Status) (finished : Finished)
     (left : S → Option (List ℕ)) (faults : S → ℕ) (reliable : S → Type 0) (from rest : S)
     (held : K → Option (List ℕ)) (failures : K → ℕ) (old new : K) : Type 0 where
   pub is : finished ≡ record { status = checking.status_of given; closed = None }
-  pub checks : EndsAsCheck replay_layout most given left faults reliable from rest held failures old new
+  pub checks : EndsAsCheck replay_layout schedules given left faults reliable from rest held failures old new
 
 -- the layout of the nucleus that is started for what is asked: of so many places for each site as `run TURNS` asks, and
 -- of one for `run` and a crew. All else uses no nucleus, and one thread does it
@@ -145,10 +147,13 @@ DoesOnOneThread (words.ExploreMost most) finished left faults reliable from rest
     EndsAsExplored most finished left faults reliable from rest held failures old new
 DoesOnOneThread words.Check finished left faults reliable from rest held failures old new =
     (given : Result Checked Status)
-    × EndsAsChecked CHECK_MOST given finished left faults reliable from rest held failures old new
+    × EndsAsChecked (All CHECK_MOST) given finished left faults reliable from rest held failures old new
 DoesOnOneThread (words.CheckMost most) finished left faults reliable from rest held failures old new =
     (given : Result Checked Status)
-    × EndsAsChecked most given finished left faults reliable from rest held failures old new
+    × EndsAsChecked (All most) given finished left faults reliable from rest held failures old new
+DoesOnOneThread (words.CheckDrawn count first) finished left faults reliable from rest held failures old new =
+    (given : Result Checked Status)
+    × EndsAsChecked (Drawn count first) given finished left faults reliable from rest held failures old new
 DoesOnOneThread asked finished left faults reliable from rest held failures old new = ⊥
 
 -- what the words do

@@ -10,7 +10,7 @@ ghost use Rattle.chorus_program.specs.Running.{EndsWithCause};
 use crate::conclusion::{Conclusion, Verdict, end_as};
 use crate::one_thread::closed_nothing;
 use crate::running::PROGRAM_SITES;
-use chorus_check::{Checked, check};
+use chorus_check::{Checked, Schedules, check};
 use chorus_io::{Sink, Source};
 use chorus_judge::{Judgement, judge};
 use chorus_show::Status;
@@ -23,8 +23,8 @@ use std::alloc::Global;
 pub(crate) enum Inquiry {
     /// What a journal is, for this layout, or where none is asked for, for the one that it names.
     Judge { asked: Option<Layout> },
-    /// What is so of the claims of a scenario, with at most so many events carried out.
-    Check { most: u32 },
+    /// What is so of the claims of a scenario, by these schedules.
+    Check { schedules: Schedules },
 }
 
 /// What the program's words ask about a text. None where they ask nothing.
@@ -37,8 +37,15 @@ pub(crate) fn inquiry_in(asked: Words) -> Option<Inquiry>
         Words::JudgeFor { sites, turns } => Some(Inquiry::Judge {
             asked: Some(Layout::new(sites, turns).unwrap()),
         }),
-        Words::Check => Some(Inquiry::Check { most: CHECK_MOST }),
-        Words::CheckMost { most } => Some(Inquiry::Check { most }),
+        Words::Check => Some(Inquiry::Check {
+            schedules: Schedules::All { most: CHECK_MOST },
+        }),
+        Words::CheckMost { most } => Some(Inquiry::Check {
+            schedules: Schedules::All { most },
+        }),
+        Words::CheckDrawn { count, first } => Some(Inquiry::Check {
+            schedules: Schedules::Drawn { count, first },
+        }),
         _ => None,
     }
 }
@@ -57,7 +64,7 @@ pub(crate) fn answer<S: Source, K: Sink>(
 {
     match inquiry {
         Inquiry::Judge { asked } => judge_for(alloc, asked, source, sink),
-        Inquiry::Check { most } => check_for(alloc, most, source, sink),
+        Inquiry::Check { schedules } => check_for(alloc, schedules, source, sink),
     }
 }
 
@@ -76,20 +83,20 @@ fn judge_for<S: Source, K: Sink>(
     judged(judge(alloc, asked, source, sink))
 }
 
-/// Does the program's word `check`: checks the claims of the scenario that the source gives, with at most so many events carried out.
+/// Does the program's words `check` and `drawn`: checks the claims of the scenario that the source gives, by these schedules.
 fn check_for<S: Source, K: Sink>(
     alloc: Global,
-    most: u32,
+    schedules: Schedules,
     source: &mut S,
     sink: &mut K,
 ) -> Conclusion
-    ensures checks { ConcludesAsCheck most result S.left S.faults S.reliable source.old source.new
+    ensures checks { ConcludesAsCheck schedules result S.left S.faults S.reliable source.old source.new
         K.held K.faults sink.old sink.new }
     ensures causes { EndsWithCause result.finished S.faults S.reliable source.old source.new
         K.faults sink.old sink.new }
 {
     let layout = Layout::new(PROGRAM_SITES, 1).unwrap();
-    checked(check(alloc, layout, most, source, sink))
+    checked(check(alloc, layout, schedules, source, sink))
 }
 
 /// The end of the program by what a judgement gives.

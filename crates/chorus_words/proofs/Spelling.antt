@@ -7,7 +7,7 @@ use Rattle.std.specs.Option.{IfSome, IsNone, is_some, unwrap_or}
 use Rattle.std.proofs.lemmas.Bool.Decides.{nat_tests}
 use Rattle.chorus_ui.specs.Layout.{IsLayout, Shape, is_layout, new_layout}
 use Rattle.chorus_words.specs.declared.words.Words.{Words}
-use Rattle.chorus_words.specs.declared.words.Words.TheVariants.{Replay, Run, RunOn, Load, Audit, Judge, JudgeFor, Picture, Lossy, Crew, Explore, ExploreMost, Check, CheckMost}
+use Rattle.chorus_words.specs.declared.words.Words.TheVariants.{Replay, Run, RunOn, Load, Audit, Judge, JudgeFor, Picture, Lossy, Crew, Explore, ExploreMost, Check, CheckMost, CheckDrawn}
 use Rattle.chorus_words.specs.Words.{Ask, IsTurns, IsWithin, spelled}
 use Rattle.chorus_words.specs.Cutting.{AskByThree, is_value}
 
@@ -37,6 +37,7 @@ spelled_values Explore w = refl
 spelled_values (ExploreMost most) w = rw (decimal_value most (omega (arith, w))) refl
 spelled_values Check w = refl
 spelled_values (CheckMost most) w = rw (decimal_value most (omega (arith, w))) refl
+spelled_values (CheckDrawn count first) w = rw (decimal_value count (omega (arith, w.0)), decimal_value first w.1) refl
 
 no_word : {X : Type 0} (x : X) → None ≡ Some x → ⊥
 no_word x e = true≢false (sym (ap is_some e))
@@ -75,6 +76,7 @@ few_words Explore = omega arith
 few_words (ExploreMost most) = omega arith
 few_words Check = omega arith
 few_words (CheckMost most) = omega arith
+few_words (CheckDrawn count first) = omega arith
 
 -- at most three words, of which the first three ask this, ask it
 pub asks : (ws : List (List ℕ)) (what first second : Option (List ℕ)) (asked : Words) → length ws ≤ 3
@@ -101,6 +103,9 @@ no_picture e = true≢false (ap (λ (w : List ℕ). length w == 5) (the_word (co
 
 no_judge : Some (codes "audit") ≡ Some (codes "judge") → ⊥
 no_judge e = true≢false (ap (λ (w : List ℕ). get_or w 0 0 == 97) (the_word (codes "audit") (codes "judge") e))
+
+no_drawn : (word : List ℕ) → (get_or word 0 0 == 100) ≡ false → Some word ≡ Some (codes "drawn") → ⊥
+no_drawn word other e = true≢false (sym (ap (λ (w : List ℕ). get_or w 0 0 == 100) (the_word word (codes "drawn") e)) ∙ other)
 
 -- a row is known by how many words it has, by how long the first of them is, and by how that begins
 abbrev size : List (List ℕ) → ℕ
@@ -133,6 +138,9 @@ one_spelling Explore Explore w v e = refl
 one_spelling (ExploreMost most) (ExploreMost m) w v e = ap ExploreMost (same_number most m (omega (arith, w)) (omega (arith, v)) (ap (λ l. slice_get l 1) e))
 one_spelling Check Check w v e = refl
 one_spelling (CheckMost most) (CheckMost m) w v e = ap CheckMost (same_number most m (omega (arith, w)) (omega (arith, v)) (ap (λ l. slice_get l 1) e))
+one_spelling (CheckDrawn count first) (CheckDrawn c f) w v e = ap₂ CheckDrawn
+    (same_number count c (omega (arith, w.0)) (omega (arith, v.0)) (ap (λ l. slice_get l 1) e))
+    (same_number first f w.1 v.1 (ap (λ l. slice_get l 2) e))
 one_spelling a b w v e = absurd (let same : size (spelled a) ≡ size (spelled b) = ap size e in omega (arith, same))
 
 pub ask_once : (ws : List (List ℕ)) (a b : Words) → Ask ws a → Ask ws b → a ≡ b
@@ -195,6 +203,7 @@ no_audit_of sites turns none Explore by = no_word sites (sym by.1)
 no_audit_of sites turns none (ExploreMost most) by = no_word turns (sym by.2)
 no_audit_of sites turns none Check by = no_word sites (sym by.1)
 no_audit_of sites turns none (CheckMost most) by = no_word turns (sym by.2)
+no_audit_of sites turns none (CheckDrawn count first) by = no_drawn (codes "audit") refl by.0
 no_audit_of sites turns none (Audit s t) by = none (record { sites = s; turns = t }) by.3 (the_word sites (decimal s) by.1) (the_word turns (decimal t) by.2)
 
 pub no_audit : (sites turns : List ℕ) (what first second : Option (List ℕ)) → what ≡ Some (codes "audit") → first ≡ Some sites → second ≡ Some turns
@@ -213,6 +222,7 @@ no_judge_of sites turns none (Audit s t) by = no_judge (sym by.0)
 no_judge_of sites turns none (Lossy first) by = no_word turns (sym by.2)
 no_judge_of sites turns none Check by = no_word sites (sym by.1)
 no_judge_of sites turns none (CheckMost most) by = no_word turns (sym by.2)
+no_judge_of sites turns none (CheckDrawn count first) by = no_drawn (codes "judge") refl by.0
 no_judge_of sites turns none asked by =
     absurd (let word : codes "judge" ≡ unwrap_or (slice_get (spelled asked) 0) [] = the_word (codes "judge") (unwrap_or (slice_get (spelled asked) 0) []) by.0 in let long = ap (λ (w : List ℕ). length w) word in omega (arith, long))
 
@@ -278,6 +288,7 @@ no_check_of word none Check by = no_word word (sym by.1)
 no_check_of word none Judge by = no_word word (sym by.1)
 no_check_of word none (Audit sites turns) by = no_word (decimal turns) by.2
 no_check_of word none (JudgeFor sites turns) by = no_word (decimal turns) by.2
+no_check_of word none (CheckDrawn count first) by = no_word (decimal first) by.2
 no_check_of word none (Lossy first) by = no_lossy by.0
 no_check_of word none asked by =
     absurd (let first : codes "check" ≡ unwrap_or (slice_get (spelled asked) 0) [] = the_word (codes "check") (unwrap_or (slice_get (spelled asked) 0) []) by.0 in let long = ap (λ (w : List ℕ). length w) first in omega (arith, long))

@@ -4,7 +4,7 @@ use Rattle.std.specs.Prelude.{ℕ, ◌≡◌, ◌^◌, ◌<◌, ◌≤◌, List,
 use Rattle.chorus_ui.specs.Layout.{IsLayout}
 use Rattle.chorus_words.specs.declared.words.TheConstants.{LOAD_LIMIT}
 use Rattle.chorus_words.specs.declared.words.Words.{Words}
-use Rattle.chorus_words.specs.declared.words.Words.TheVariants.{Replay, Run, RunOn, Load, Audit, Judge, JudgeFor, Picture, Lossy, Crew, Explore, ExploreMost, Check, CheckMost}
+use Rattle.chorus_words.specs.declared.words.Words.TheVariants.{Replay, Run, RunOn, Load, Audit, Judge, JudgeFor, Picture, Lossy, Crew, Explore, ExploreMost, Check, CheckMost, CheckDrawn}
 
 abbrev pub spelled : Words → List (List ℕ)
 spelled Replay = codes "replay" ∷ []
@@ -21,6 +21,7 @@ spelled Explore = codes "explore" ∷ []
 spelled (ExploreMost most) = codes "explore" ∷ decimal most ∷ []
 spelled Check = codes "check" ∷ []
 spelled (CheckMost most) = codes "check" ∷ decimal most ∷ []
+spelled (CheckDrawn count first) = codes "drawn" ∷ decimal count ∷ decimal first ∷ []
 
 -- a site may have so many places: a layout has 1, 2 or 4
 abbrev pub IsTurns : ℕ → Type 0
@@ -42,6 +43,7 @@ IsWithin Explore = Unit {0}
 IsWithin (ExploreMost most) = most < 2 ^ 32
 IsWithin Check = Unit {0}
 IsWithin (CheckMost most) = most < 2 ^ 32
+IsWithin (CheckDrawn count first) = (count < 2 ^ 32) × (first < 2 ^ 64)
 
 -- these words ask this
 abbrev pub Ask : List (List ℕ) → Words → Type 0

@@ -100,6 +100,10 @@ fn asked_by(what: Option<&str>, first: Option<&str>, second: Option<&str>) -> Op
         ("check", Some(most), None) => Some(Words::CheckMost {
             most: most_of(most)?,
         }),
+        ("drawn", Some(count), Some(first)) => Some(Words::CheckDrawn {
+            count: most_of(count)?,
+            first: parse_decimal(first.as_bytes())?,
+        }),
         _ => None,
     }
 }
@@ -145,7 +149,8 @@ fn commands_of(word: &str) -> Option<u32>
     }
 }
 
-/// The most events of an exploration or a check, a number of 32 bits whose decimal the program's word is. None exactly where there is none.
+/// The most events of an exploration or a check, or how many schedules are drawn: a number of 32 bits whose decimal the program's word is.
+/// None exactly where there is none.
 fn most_of(word: &str) -> Option<u32>
     ensures some { IfSome result (λ n. word.now ≡ decimal n) }
     ensures none { IsNone result → (n : ℕ) → n < 2 ^ 32 → ¬ (word.now ≡ decimal n) }

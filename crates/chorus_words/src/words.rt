@@ -41,4 +41,6 @@ pub enum Words {
     Check,
     /// `check MOST`: so it is with so many events at most.
     CheckMost { most: u32 },
+    /// `drawn COUNT FIRST`: each claim of a scenario is asked of so many schedules, which are drawn from the first state on.
+    CheckDrawn { count: u32, first: u64 },
 }

@@ -81,7 +81,7 @@ fn judgements_and_their_exit_status(rt: HostRuntime) {
         (
             &["judge"],
             MADE_AT_PLACE_61,
-            "wrong line 2 rule 0\nopen 0\n",
+            "wrong line 2 rule 0 condition 1\nopen 0\n",
             7,
         ),
         (&["judge"], LEFT_OPEN, WHAT_IS_LEFT_OPEN, 8),

@@ -1,4 +1,4 @@
-//! How the program ends by what the word `check` finds of a scenario's claims; `tests_run` has what is written of them.
+//! How the program ends by what the words `check` and `drawn` find of a scenario's claims; `tests_run` has what is written of them.
 
 use crate::ground::{assert_same, run_on, sink_of, text_in};
 use chorus_program::ended;
@@ -34,10 +34,12 @@ end
 #[test]
 fn checks_and_their_exit_status(rt: HostRuntime) {
     let alloc = rt.alloc();
-    let each: [(&[&str], &str, u8, &str); 4] = [
+    let each: [(&[&str], &str, u8, &str); 6] = [
         (&["check"], HOLDS, 0, ""),
         (&["check"], FAILS, 7, "chorus: claim 2 fails\n"),
         (&["check", "0"], HOLDS, 8, "chorus: claim 1 open\n"),
+        (&["drawn", "9", "7"], HOLDS, 8, "chorus: claim 1 open\n"),
+        (&["drawn", "9", "7"], FAILS, 7, "chorus: claim 2 fails\n"),
         (&["explore"], FAILS, 0, ""),
     ];
     for (words, scenario, number, line) in each {

@@ -26,7 +26,8 @@ const MOST: &str = "18446744073709551615";
 fn assert_listed(rt: &impl Abort, alloc: Global) {
     let first = u64::MAX;
     let commands = 65_536;
-    let listed: [(&[&str], Words); 17] = [
+    let count = u32::MAX;
+    let listed: [(&[&str], Words); 18] = [
         (&["replay"], Words::Replay),
         (&["run"], Words::Run),
         (&["run", "1"], Words::RunOn { turns: 1 }),
@@ -38,6 +39,10 @@ fn assert_listed(rt: &impl Abort, alloc: Global) {
         (&["crew", MOST, "65536"], Words::Crew { first, commands }),
         (&["check"], Words::Check),
         (&["check", "0"], Words::CheckMost { most: 0 }),
+        (
+            &["drawn", "4294967295", MOST],
+            Words::CheckDrawn { count, first },
+        ),
         (&["judge"], Words::Judge),
         (
             &["judge", "16", "4"],
@@ -67,7 +72,7 @@ fn assert_listed(rt: &impl Abort, alloc: Global) {
 
 /// Asserts that nothing is read in words that the list of the program's uses has not: too few, too many, and numbers beyond a limit.
 fn assert_unlisted(rt: &impl Abort, alloc: Global) {
-    let unlisted: [&[&str]; 22] = [
+    let unlisted: [&[&str]; 24] = [
         &["run", "0"],
         &["run", "3"],
         &["run", "8"],
@@ -80,6 +85,8 @@ fn assert_unlisted(rt: &impl Abort, alloc: Global) {
         &["crew", "7", "65537"],
         &["crew", "7", "1", "1"],
         &["check", "4294967296"],
+        &["drawn", "4294967296", "7"],
+        &["drawn", "1"],
         &["check", "1", "1"],
         &["judge", "16"],
         &["judge", "17", "1"],

@@ -1,11 +1,11 @@
 //! What checks tell of the claims of a scenario: of three protocols, where the limit of events is
-//! met, of what is asked to be possible, where all claims have failed, and of a scenario that has
-//! none. The texts are those of a simulator that was written apart from this code, from the rules
-//! of a check.
+//! met, of what is asked to be possible, where all claims have failed, of a scenario that has none,
+//! and of schedules that are drawn. The texts are those of a simulator that was written apart from
+//! this code, from the rules of a check; those of drawn schedules were worked out by hand.
 
 use crate::exploring::MANY;
 use crate::running::{assert_same, run_of, sink_of, sixteen, source_of};
-use chorus_check::{Checked, check};
+use chorus_check::{Checked, Schedules, check};
 use chorus_io::{Sink, Source};
 use chorus_show::Status;
 use std::alloc::Global;
@@ -32,7 +32,7 @@ end
 ";
 
 const LOCK_TOLD: &str = "\
-events 186
+events 201
 claims 2
 1 holds nothing lost
 2 holds nothing left
@@ -86,7 +86,7 @@ deliver 2 1
 deliver 1 2
 deliver 2 1
 deliver 1 2
-facts 11
+facts 12
 answer 1 1 post 1:1:0 port 1.p.1 plain =1
 answer 1 2 post 1:2:0 port 1.p.1 plain =2
 answer 1 3 post 1:3:0 port 1.p.1 plain =3
@@ -98,6 +98,7 @@ verdict 1:2:0 accepted
 verdict 1:3:0 full 2
 verdict 1:4:0 full 2
 port 1.p.1 1.a.1 1:1:0 1:2:0
+accepted 1.p.1 1:1:0 1:2:0
 schedule 5
 step 1
 step 1
@@ -113,7 +114,7 @@ step 2
 deliver 1 2
 deliver 2 1
 deliver 1 2
-facts 11
+facts 12
 answer 1 1 post 1:1:0 port 1.p.1 plain =1
 answer 1 2 post 1:2:0 port 1.p.1 plain =2
 answer 1 3 post 1:3:0 port 1.p.1 plain =3
@@ -125,6 +126,7 @@ verdict 1:2:0 accepted
 verdict 1:3:0 full 2
 verdict 1:4:0 accepted
 port 1.p.1 1.a.1 1:2:0 1:4:0
+accepted 1.p.1 1:1:0 1:2:0 1:4:0
 end
 ";
 
@@ -170,20 +172,26 @@ step 3
 deliver 1 2
 deliver 1 2
 deliver 2 1
-facts 13
+facts 19
 answer 1 1 post 1:1:0 one 1.g.1 plain =job
 answer 1 2 post 1:2:0 one 1.g.1 plain =job
 answer 2 1 post 2:1:0 one 1.g.1 plain =job
 answer 3 1 take 1.p.1 1:1:1
 answer 4 1 empty 2.p.1
 verdict 1:1:0 chosen
+copy 1:1:1 1.p.1
 verdict 1:1:1 accepted
 verdict 1:2:0 chosen
+copy 1:2:1 2.p.1
 verdict 1:2:1 accepted
 verdict 2:1:0 chosen
+copy 2:1:1 1.p.1
 verdict 2:1:1 full 1
 port 1.p.1 1.a.1
 port 2.p.1 2.a.1 1:2:1
+accepted 1.p.1 1:1:1
+accepted 2.p.1 1:2:1
+members 1.g.1 1.p.1 2.p.1
 end
 ";
 
@@ -212,12 +220,13 @@ step 2
 deliver 2 1
 step 1
 deliver 1 2
-facts 5
+facts 6
 answer 1 1 post 1:1:0 port 1.p.1 plain =near
 answer 2 1 post 2:1:0 port 1.p.1 plain =far
 verdict 1:1:0 full 1
 verdict 2:1:0 accepted
 port 1.p.1 1.a.1 2:1:0
+accepted 1.p.1 2:1:0
 end
 ";
 
@@ -246,23 +255,25 @@ step 2
 deliver 2 1
 step 1
 deliver 1 2
-facts 5
+facts 6
 answer 1 1 post 1:1:0 port 1.p.1 plain =near
 answer 2 1 post 2:1:0 port 1.p.1 plain =far
 verdict 1:1:0 full 1
 verdict 2:1:0 accepted
 port 1.p.1 1.a.1 2:1:0
+accepted 1.p.1 2:1:0
 schedule 2
 step 1
 step 2
 deliver 2 1
 deliver 1 2
-facts 5
+facts 6
 answer 1 1 post 1:1:0 port 1.p.1 plain =near
 answer 2 1 post 2:1:0 port 1.p.1 plain =far
 verdict 1:1:0 accepted
 verdict 2:1:0 full 1
 port 1.p.1 1.a.1 1:1:0
+accepted 1.p.1 1:1:0
 end
 ";
 
@@ -297,30 +308,111 @@ claims 6
 end
 ";
 
-/// Checks what the source gives, on sixteen sites, with at most so many events, and gives what that
-/// comes to.
+/// From 7 the generator draws 1059165278, 2052263231, 1946856753, 585718673; 572045545, 297257219,
+/// 865189864 and 691615764: of two moves the first, then the only ones; and the second, the second,
+/// the first.
+const DRAWN: &str = "\
+chorus 3
+sites 2
+port 1.p.1 1.a.1 1
+script 1.a.1
+send 1.p.1 =near
+script 2.a.1
+send 1.p.1 =far
+claim always verdict 1:1:0 accepted
+claim possible verdict 2:1:0 full 1
+claim nothing lost
+claim throughout never open 2:1:0
+schedule
+end
+";
+
+const DRAWN_TOLD: &str = "\
+drawn 2 7
+events 8
+claims 4
+1 fails 4 always verdict 1:1:0 accepted
+2 holds 4 possible verdict 2:1:0 full 1
+3 open 0 nothing lost
+4 fails 2 throughout never open 2:1:0
+schedule 1
+step 2
+deliver 2 1
+step 1
+deliver 1 2
+facts 6
+answer 1 1 post 1:1:0 port 1.p.1 plain =near
+answer 2 1 post 2:1:0 port 1.p.1 plain =far
+verdict 1:1:0 full 1
+verdict 2:1:0 accepted
+port 1.p.1 1.a.1 2:1:0
+accepted 1.p.1 2:1:0
+schedule 2
+step 1
+step 2
+deliver 2 1
+deliver 1 2
+facts 6
+answer 1 1 post 1:1:0 port 1.p.1 plain =near
+answer 2 1 post 2:1:0 port 1.p.1 plain =far
+verdict 1:1:0 accepted
+verdict 2:1:0 full 1
+port 1.p.1 1.a.1 1:1:0
+accepted 1.p.1 1:1:0
+schedule 4
+step 1
+step 2
+facts 6
+answer 1 1 post 1:1:0 port 1.p.1 plain =near
+answer 2 1 post 2:1:0 port 1.p.1 plain =far
+verdict 1:1:0 accepted
+open 2:1:0
+port 1.p.1 1.a.1 1:1:0
+accepted 1.p.1 1:1:0
+end
+";
+
+/// No schedule was drawn.
+const UNDRAWN_TOLD: &str = "\
+drawn 0 7
+events 0
+claims 2
+1 open 0 always verdict 1:1:0 accepted
+2 open 0 always verdict 2:1:0 accepted
+end
+";
+
+const NONE_DRAWN_TOLD: &str = "\
+drawn 2 7
+events 8
+claims 0
+end
+";
+
+/// Checks what the source gives, on sixteen sites, by these schedules, and gives what that comes
+/// to.
 fn check_on<S: Source, K: Sink>(
     rt: &impl Abort,
     alloc: Global,
-    most: u32,
+    schedules: Schedules,
     source: &mut S,
     sink: &mut K,
 ) -> Result<Checked, Status> {
-    check(alloc, sixteen(rt), most, source, sink)
+    check(alloc, sixteen(rt), schedules, source, sink)
 }
 
-/// Asserts that a check with at most so many events comes to this and tells this of the scenario.
-fn assert_checks(
+/// Asserts that a check by these schedules comes to this and tells this of the scenario.
+pub(crate) fn assert_checks(
     rt: &impl Abort,
     alloc: Global,
-    most: u32,
+    schedules: Schedules,
     text: &str,
     checked: Checked,
     told: &str,
 ) {
     let mut source = source_of(rt, alloc, text.as_bytes(), &[]);
     let mut sink = sink_of(rt, alloc, 4096, &[]);
-    let result = check_on(rt, alloc, most, &mut source, &mut sink);
+    let result = check_on(rt, alloc, schedules, &mut source, &mut sink);
     assert_same(rt, result, Ok(checked), text);
     let run = run_of(rt, alloc, Status::Done, false, &sink);
     assert_same(rt, run.written.as_str(), told, text);
@@ -339,6 +431,20 @@ fn claims_of_protocols_are_checked(rt: HostRuntime) {
         (MANY, NONE, Checked::Holds, NONE_TOLD),
     ];
     for (most, text, checked, told) in rows {
-        assert_checks(&rt, alloc, most, text, checked, told);
+        assert_checks(&rt, alloc, Schedules::All { most }, text, checked, told);
+    }
+}
+
+#[test]
+fn claims_are_asked_of_drawn_schedules(rt: HostRuntime) {
+    let alloc = rt.alloc();
+    let rows = [
+        (2, DRAWN, Checked::Fails { claim: 1 }, DRAWN_TOLD),
+        (0, EARLY, Checked::Open { claim: 1 }, UNDRAWN_TOLD),
+        (2, NONE, Checked::Holds, NONE_DRAWN_TOLD),
+    ];
+    for (count, text, checked, told) in rows {
+        let schedules = Schedules::Drawn { count, first: 7 };
+        assert_checks(&rt, alloc, schedules, text, checked, told);
     }
 }

@@ -14,6 +14,8 @@ mod exploring;
 #[cfg(test)]
 mod loads;
 #[cfg(test)]
+mod moments;
+#[cfg(test)]
 mod races;
 #[cfg(test)]
 mod replays;

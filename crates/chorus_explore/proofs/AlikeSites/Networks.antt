@@ -1,6 +1,6 @@
 -- Callers, places and networks that are alike.
 -- w and v are callers, p and q places, ps and qs lists of them.
-use Rattle.std.proofs.Common.{ℕ, suc, ◌≡◌, ◌<◌, ◌≤◌, ◌+◌, List, [], ◌∷◌, ◌++◌, length, map, Some, slice_get, get_or, refl, sym, ◌∙◌, ap, subst, arith}
+use Rattle.std.proofs.Common.{ℕ, suc, ◌≡◌, ◌<◌, ◌≤◌, ◌+◌, Bool, List, [], ◌∷◌, ◌++◌, length, map, Some, slice_get, get_or, refl, sym, ◌∙◌, ap, subst, arith}
 use Rattle.std.proofs.lemmas.List.{map-append}
 use Rattle.std.proofs.lemmas.Option.{slice_get_read}
 use Rattle.chorus_ui.specs.Layout.{places}
@@ -14,7 +14,7 @@ use Rattle.chorus_place.specs.Calls.{Place, state, place_of}
 use Rattle.chorus_net.specs.Sites.{to_place, waiting_from, all_waiting, net, SitesState, IsSites, IsPlaceOf, ArePlaces}
 use Rattle.chorus_net.proofs.Changes.{place-of}
 use Rattle.law_explore.specs.Alike.{SameButLast, CallerAlike, PlacesAlike, NetsAlike, unclocked}
-use Rattle.law_explore.specs.Positions.{TellAlike}
+use Rattle.law_explore.specs.Positions.{AskAlike}
 use Rattle.chorus_explore.specs.AlikeSites.Packets.{plain, are_plain}
 use Rattle.chorus_explore.specs.AlikeSites.Places.{SamePlace}
 use Rattle.chorus_explore.proofs.AlikeSites.Lists.{some}
@@ -38,10 +38,10 @@ same-caller w v seat actor posts hand client =
 
 -- Places.
 
-pub same-place : (p q : Place) → q.layout ≡ p.layout → q.number ≡ p.number → p.ports ≡ q.ports → p.known ≡ q.known
+pub same-place : (asks : Bool) (p q : Place) → q.layout ≡ p.layout → q.number ≡ p.number → p.ports ≡ q.ports → p.known ≡ q.known
     → queue p.waits ≡ queue q.waits → is_unheard p.unheard ≡ is_unheard q.unheard
-    → map are_plain p.out.lists ≡ map are_plain q.out.lists → TellAlike p.journal q.journal → SamePlace p q
-same-place p q layout number ports known waits unheard packets journal =
+    → map are_plain p.out.lists ≡ map are_plain q.out.lists → AskAlike asks p.journal q.journal → SamePlace asks p q
+same-place asks p q layout number ports known waits unheard packets journal =
     record {
       alike =
           record {
@@ -61,29 +61,29 @@ same-place p q layout number ports known waits unheard packets journal =
     }
 
 -- the places that have these tables
-pub same-tables : (t u : Tables) (p q : Place) → place_of t ≡ p → place_of u ≡ q → q.layout ≡ p.layout → q.number ≡ p.number
+pub same-tables : (asks : Bool) (t u : Tables) (p q : Place) → place_of t ≡ p → place_of u ≡ q → q.layout ≡ p.layout → q.number ≡ p.number
     → t.ports.records ≡ u.ports.records → t.known ≡ u.known → queue t.waits ≡ queue u.waits → is_unheard t.unheard ≡ is_unheard u.unheard
-    → map are_plain t.out.lists ≡ map are_plain u.out.lists → TellAlike t.journal.past u.journal.past → SamePlace p q
-same-tables t u p q is_p is_q layout number ports known waits unheard packets journal =
-    subst (λ (y : Place). SamePlace p y) is_q
-    (subst (λ (x : Place). SamePlace x (place_of u)) is_p
-    (same-place (place_of t) (place_of u)
+    → map are_plain t.out.lists ≡ map are_plain u.out.lists → AskAlike asks t.journal.past u.journal.past → SamePlace asks p q
+same-tables asks t u p q is_p is_q layout number ports known waits unheard packets journal =
+    subst (λ (y : Place). SamePlace asks p y) is_q
+    (subst (λ (x : Place). SamePlace asks x (place_of u)) is_p
+    (same-place asks (place_of t) (place_of u)
     (ap (λ (y : Place). y.layout) is_q ∙ layout ∙ ap (λ (x : Place). x.layout) (sym is_p))
     (ap (λ (y : Place). y.number) is_q ∙ number ∙ ap (λ (x : Place). x.number) (sym is_p))
     ports known waits unheard packets journal))
 
-abbrev pub AllSame : List Place → List Place → Type 0
-AllSame ps qs = (i : ℕ) → i < length ps → (p q : Place) → slice_get ps i ≡ Some p → slice_get qs i ≡ Some q → SamePlace p q
+abbrev pub AllSame : Bool → List Place → List Place → Type 0
+AllSame asks ps qs = (i : ℕ) → i < length ps → (p q : Place) → slice_get ps i ≡ Some p → slice_get qs i ≡ Some q → SamePlace asks p q
 
-all-rest : (p q : Place) (ps qs : List Place) → AllSame (p ∷ ps) (q ∷ qs) → AllSame ps qs
-all-rest p q ps qs h i l a b e f = h (suc i) (omega (arith, l)) a b e f
+all-rest : (asks : Bool) (p q : Place) (ps qs : List Place) → AllSame asks (p ∷ ps) (q ∷ qs) → AllSame asks ps qs
+all-rest asks p q ps qs h i l a b e f = h (suc i) (omega (arith, l)) a b e f
 
-pub places-alike : (ps qs : List Place) → length ps ≡ length qs → AllSame ps qs → PlacesAlike TellAlike (map state ps) (map state qs)
-places-alike [] [] n h = tt
-places-alike [] (q ∷ qs) n h = absurd (omega (arith, n))
-places-alike (p ∷ ps) [] n h = absurd (omega (arith, n))
-places-alike (p ∷ ps) (q ∷ qs) n h =
-    ((h 0 (omega arith) p q refl refl).alike, places-alike ps qs (omega (arith, n)) (all-rest p q ps qs h))
+pub places-alike : (asks : Bool) (ps qs : List Place) → length ps ≡ length qs → AllSame asks ps qs → PlacesAlike (AskAlike asks) (map state ps) (map state qs)
+places-alike asks [] [] n h = tt
+places-alike asks [] (q ∷ qs) n h = absurd (omega (arith, n))
+places-alike asks (p ∷ ps) [] n h = absurd (omega (arith, n))
+places-alike asks (p ∷ ps) (q ∷ qs) n h =
+    ((h 0 (omega arith) p q refl refl).alike, places-alike asks ps qs (omega (arith, n)) (all-rest asks p q ps qs h))
 
 -- Packets.
 
@@ -97,13 +97,13 @@ unclocked-from b (l ∷ ls) =
     map-append unclocked (to_place b l) (waiting_from (b + 1) ls)
     ∙ (λ i. unclocked-to b l i ++ unclocked-from (b + 1) ls i)
 
-pub packets-alike : (ps qs : List Place) → length ps ≡ length qs → AllSame ps qs → map unclocked (all_waiting ps) ≡ map unclocked (all_waiting qs)
-packets-alike [] [] n h = refl
-packets-alike [] (q ∷ qs) n h = absurd (omega (arith, n))
-packets-alike (p ∷ ps) [] n h = absurd (omega (arith, n))
-packets-alike (p ∷ ps) (q ∷ qs) n h =
+pub packets-alike : (asks : Bool) (ps qs : List Place) → length ps ≡ length qs → AllSame asks ps qs → map unclocked (all_waiting ps) ≡ map unclocked (all_waiting qs)
+packets-alike asks [] [] n h = refl
+packets-alike asks [] (q ∷ qs) n h = absurd (omega (arith, n))
+packets-alike asks (p ∷ ps) [] n h = absurd (omega (arith, n))
+packets-alike asks (p ∷ ps) (q ∷ qs) n h =
     map-append unclocked (waiting_from 0 p.out.lists) (all_waiting ps)
-    ∙ (λ i. first i ++ packets-alike ps qs (omega (arith, n)) (all-rest p q ps qs h) i)
+    ∙ (λ i. first i ++ packets-alike asks ps qs (omega (arith, n)) (all-rest asks p q ps qs h) i)
     ∙ sym (map-append unclocked (waiting_from 0 q.out.lists) (all_waiting qs))
   where
     first : map unclocked (waiting_from 0 p.out.lists) ≡ map unclocked (waiting_from 0 q.out.lists)
@@ -126,19 +126,19 @@ pub as-many : (s t : SitesState) → t.layout ≡ s.layout → IsSites s → IsS
 as-many s t l h k = h.all ∙ ap places (sym l) ∙ sym k.all
 
 -- the places that were read are those that stand there
-pub read-alike : (ps qs : List Place) (i : ℕ) (a b : Place) → i < length ps → i < length qs → a ≡ get_or ps i a → b ≡ get_or qs i b
-    → SamePlace a b → (p q : Place) → slice_get ps i ≡ Some p → slice_get qs i ≡ Some q → SamePlace p q
-read-alike ps qs i a b l k is_a is_b same p q e f =
-    subst (λ (y : Place). SamePlace p y) (some b q (sym (slice_get_read qs (length qs) i b refl k is_b) ∙ f))
-    (subst (λ (x : Place). SamePlace x b) (some a p (sym (slice_get_read ps (length ps) i a refl l is_a) ∙ e)) same)
+pub read-alike : (asks : Bool) (ps qs : List Place) (i : ℕ) (a b : Place) → i < length ps → i < length qs → a ≡ get_or ps i a → b ≡ get_or qs i b
+    → SamePlace asks a b → (p q : Place) → slice_get ps i ≡ Some p → slice_get qs i ≡ Some q → SamePlace asks p q
+read-alike asks ps qs i a b l k is_a is_b same p q e f =
+    subst (λ (y : Place). SamePlace asks p y) (some b q (sym (slice_get_read qs (length qs) i b refl k is_b) ∙ f))
+    (subst (λ (x : Place). SamePlace asks x b) (some a p (sym (slice_get_read ps (length ps) i a refl l is_a) ∙ e)) same)
 
-pub nets-alike : (count : ℕ) (s t : SitesState) → t.layout ≡ s.layout → IsSites s → IsSites t → AllSame s.places t.places
+pub nets-alike : (asks : Bool) (count : ℕ) (s t : SitesState) → t.layout ≡ s.layout → IsSites s → IsSites t → AllSame asks s.places t.places
     → ((k : ℕ) → 1 ≤ k → k ≤ count → CallerAlike (slice_get s.callers k) (slice_get t.callers k))
-    → NetsAlike TellAlike count (net s) (net t)
-nets-alike count s t l h k same callers =
+    → NetsAlike (AskAlike asks) count (net s) (net t)
+nets-alike asks count s t l h k same callers =
     record {
       layout = l;
-      places = places-alike s.places t.places (as-many s t l h k) same;
-      packets = packets-alike s.places t.places (as-many s t l h k) same;
+      places = places-alike asks s.places t.places (as-many s t l h k) same;
+      packets = packets-alike asks s.places t.places (as-many s t l h k) same;
       callers = callers;
     }

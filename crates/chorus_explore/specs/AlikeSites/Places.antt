@@ -1,13 +1,13 @@
 -- Places that are alike.
 -- posts and others are what two places may still hear of, p and q are places, w and v callers.
-use Rattle.std.specs.Prelude.{ℕ, ◌≡◌, List, Some, map}
+use Rattle.std.specs.Prelude.{ℕ, ◌≡◌, Bool, List, Some, map}
 use Rattle.chorus_calls.specs.Callers.{Seated}
 use Rattle.place_unsettled.specs.declared.unheard.Post.{Post}
 use Rattle.place_unsettled.specs.declared.unheard.Copies.{Copies}
 use Rattle.place_unsettled.specs.Unheard.{post_at, copies_of}
 use Rattle.chorus_place.specs.Calls.{Place, state}
 use Rattle.law_explore.specs.Alike.{PlaceAlike}
-use Rattle.law_explore.specs.Positions.{TellAlike}
+use Rattle.law_explore.specs.Positions.{AskAlike}
 use Rattle.chorus_explore.specs.AlikeSites.Packets.{are_plain}
 
 -- of each post of the ones the others keep the same
@@ -16,9 +16,9 @@ AreIn posts others =
     (i seat number : ℕ) → post_at posts i ≡ Some (seat, number) →
     copies_of posts seat number ≡ copies_of others seat number
 
--- the places are alike, and the packets that wait there but for their clocks
-pub record SamePlace (p q : Place) : Type 0 where
-  pub alike : PlaceAlike TellAlike (state p) (state q)
+-- the places are alike, where claims are asked or not, and the packets that wait there but for their clocks
+pub record SamePlace (asks : Bool) (p q : Place) : Type 0 where
+  pub alike : PlaceAlike (AskAlike asks) (state p) (state q)
   pub packets : map are_plain p.out.lists ≡ map are_plain q.out.lists
 
 -- callers of one seat, in one actor, that posted as many messages

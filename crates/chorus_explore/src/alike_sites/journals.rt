@@ -13,10 +13,11 @@ ghost use Rattle.chorus_world.specs.Groups.{members, rotation};
 ghost use Rattle.chorus_world.specs.Messages.{verdict};
 ghost use Rattle.chorus_world.specs.Views.{is_group};
 ghost use Rattle.law_explore.specs.Outcome.{plain_answer, is_stale_at, made_by, made_in};
-ghost use Rattle.law_explore.specs.Positions.{TellAlike};
+ghost use Rattle.law_explore.specs.Positions.{AskAlike, TellAlike};
 ghost use Rattle.chorus_explore.specs.AlikeSites.Journals.{ids_of, Agree, AgreeAll, HaveSame, TellSame};
 
 use crate::alike_sites::names::{are_same_ids, are_same_names};
+use crate::alike_sites::orders::are_in_one_order;
 use chorus_entry::{Act, Answer, Entry, MsgId};
 use chorus_place::Tables;
 use chorus_ui::Ui;
@@ -287,8 +288,24 @@ fn are_same_made(alloc: Global, one: &[Entry], other: &[Entry]) -> Result<bool, 
     Ok(same)
 }
 
-/// Whether the same is told of the journals of the places.
-pub(crate) fn are_told_alike(one: &Tables, other: &Tables) -> Result<bool, AllocError>
+/// Whether the same is told of the journals of the places, and where claims are asked also of what was accepted and where copies
+/// go.
+pub(crate) fn are_told_alike(one: &Tables, other: &Tables, asks: bool) -> Result<bool, AllocError>
+    ensures { IfOk result (λ same. same ≡ true →
+        AskAlike asks one.now.journal.past other.now.journal.past) }
+{
+    if !tell_alike(one, other)? {
+        return Ok(false);
+    }
+    if !asks {
+        return Ok(true);
+    }
+    let same = are_in_one_order(one.allocator(), one.entries(), other.entries())?;
+    Ok(same)
+}
+
+/// Whether outcomes tell the same of the journals of the places.
+fn tell_alike(one: &Tables, other: &Tables) -> Result<bool, AllocError>
     ensures { IfOk result (λ same. same ≡ true →
         TellAlike one.now.journal.past other.now.journal.past) }
 {

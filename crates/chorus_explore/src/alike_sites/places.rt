@@ -11,13 +11,14 @@ use crate::alike_sites::records::are_same_records;
 use chorus_place::Place;
 use std::alloc::AllocError;
 
-/// Whether the places, of one number in one layout, are alike, and so are the packets that wait there.
-pub(crate) fn is_same_place(one: &Place, other: &Place) -> Result<bool, AllocError>
+/// Whether the places, of one number in one layout, are alike, where claims are asked or not, and so are the packets that wait
+/// there.
+pub(crate) fn is_same_place(one: &Place, other: &Place, asks: bool) -> Result<bool, AllocError>
     requires layout { other.now.layout ≡ one.now.layout }
     requires number { other.now.number ≡ one.now.number }
     requires lists { length one.now.out.lists ≡ places one.now.layout + 1 }
     requires others { length other.now.out.lists ≡ places one.now.layout + 1 }
-    ensures { IfOk result (λ same. same ≡ true → SamePlace one.now other.now) }
+    ensures { IfOk result (λ same. same ≡ true → SamePlace asks one.now other.now) }
 {
     let mine = one.tables();
     let theirs = other.tables();
@@ -36,6 +37,6 @@ pub(crate) fn is_same_place(one: &Place, other: &Place) -> Result<bool, AllocErr
     if !are_same_packets(mine.out(), theirs.out(), one.layout().places()) {
         return Ok(false);
     }
-    let told = are_told_alike(mine, theirs)?;
+    let told = are_told_alike(mine, theirs, asks)?;
     Ok(told)
 }

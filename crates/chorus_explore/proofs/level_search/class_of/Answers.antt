@@ -13,6 +13,6 @@ returns-then-branch-clause-some c =
       class = c.index-classes-index.result;
       stands = slice_get_read c.args.classes.now (length c.args.classes.now) c.loop-index.index c.index-classes-index.result refl c.loop-index-test.true c.index-classes-index.is;
       alike =
-          subst (λ (ms : List Move). ComeToldAlike tells_of (race_of c.args.scenario.now) ms (moves_of c.args.stage.now)) (ap reverse c.deref.ensures.value)
+          subst (λ (ms : List Move). ComeToldAlike (tells_of c.args.stage.now.asks) (race_of c.args.scenario.now) ms (moves_of c.args.stage.now)) (ap reverse c.deref.ensures.value)
           (c.in_ok-lead_to_alike.ensures.alike (grind (arith, c.if-branch.true)));
     }

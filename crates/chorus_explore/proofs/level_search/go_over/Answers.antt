@@ -6,7 +6,7 @@ use Rattle.law_replay.specs.Shown.{race_of}
 use Rattle.chorus_scene.specs.declared.limits.TheConstants.{STEPS_LIMIT}
 use Rattle.chorus_explore.specs.declared.level_search.Search.{Search}
 use Rattle.chorus_explore.specs.Classes.{StandFor, moves_from}
-use Rattle.chorus_explore.specs.Searches.{IsWithin}
+use Rattle.chorus_explore.specs.Searches.{IsWithin, asks_of}
 use Rattle.chorus_explore.proofs.Carrying.{HasCarried, carried-all, carried-on, carried-some, none-carried}
 use Rattle.chorus_explore.proofs.Searching.{level-begins, over-by, search-ends}
 use Rattle.chorus_explore.proofs.level_search.go_over.Goals as goal
@@ -32,7 +32,7 @@ returns-then-not-branch-clause-over c =
     let level = c.deref.ensures.value ∙ ap (λ v. v.items) c.replace-level.ensures.value in
     let empty = ap (λ v. v.items) c.replace-level.ensures.after ∙ c.new.ensures.items in
     let no_ : c.go_on.result ≡ Ok false = c.in_ok-go_on.was ∙ ap (λ b. Ok b) (grind (arith, c.if-not-branch.true)) in
-    let on = c.go_on.ensures.go_on c.loop-length.length merged (subst (λ ks. StandFor (race_of scene) c.loop-length.length ks merged) (sym level) w.stand) in
+    let on = c.go_on.ensures.go_on c.loop-length.length merged (subst (λ ks. StandFor (asks_of c.args.asked.now) (race_of scene) c.loop-length.length ks merged) (sym level) w.stand) in
     on.cut no_ [] (subst (λ hs. IsWithin scene c.args.asked.now (suc c.loop-length.length) hs t) (sym (append-nil (next_members (race_of scene) merged))) (level-begins scene c.args.asked.now c.loop-length.length s w t (c.loop-length.length + 1) more refl empty))
 
 pub loop-length-preserved : goal.loop-length-preserved
@@ -46,10 +46,10 @@ loop-length-preserved c =
     let level = c.deref.ensures.value ∙ ap (λ v. v.items) c.replace-level.ensures.value in
     let empty = ap (λ v. v.items) c.replace-level.ensures.after ∙ c.new.ensures.items in
     let yes : c.go_on.result ≡ Ok true = c.in_ok-go_on.was ∙ ap (λ b. Ok b) (grind (arith, c.if-not-branch.false)) in
-    let on = c.go_on.ensures.go_on c.loop-length.length merged (subst (λ ks. StandFor (race_of scene) c.loop-length.length ks merged) (sym level) w.stand) in (
+    let on = c.go_on.ensures.go_on c.loop-length.length merged (subst (λ ks. StandFor (asks_of c.args.asked.now) (race_of scene) c.loop-length.length ks merged) (sym level) w.stand) in (
       c.in_ok-go_on.ensures.ready,
       subst (λ (k : ℕ). IsWithin scene c.args.asked.now k [] c.go_on.new.self) (sym more) (on.come yes [] (subst (λ hs. IsWithin scene c.args.asked.now (suc c.loop-length.length) hs t) (sym (append-nil (next_members (race_of scene) merged))) (level-begins scene c.args.asked.now c.loop-length.length s w t (c.loop-length.length + 1) more refl empty))),
-      subst (λ (k : ℕ). HasCarried (race_of scene) k c.go_on.new.self.explored) (sym more) (carried-on scene c.args.asked.now c.loop-length.length s w c.loop-length.invariant.2 c.go_on.new.self.explored
+      subst (λ (k : ℕ). HasCarried (asks_of c.args.asked.now) (race_of scene) k c.go_on.new.self.explored) (sym more) (carried-on scene c.args.asked.now c.loop-length.length s w c.loop-length.invariant.2 c.go_on.new.self.explored
           ((c.go_on.ensures.carries.all yes).0 ∙ ap (λ ks. c.loop-length.search.explored.events + moves_from scene ks) level)),
     )
 
@@ -101,4 +101,4 @@ returns-clause-carried c =
 
 pub loop-length-init : goal.loop-length-init
 loop-length-init c =
-    (c.in_ok-search.ensures.ready, c.in_ok-search.ensures.begun, none-carried (race_of c.args.scenario.now) c.in_ok-search.search.explored c.in_ok-search.ensures.none)
+    (c.in_ok-search.ensures.ready, c.in_ok-search.ensures.begun, none-carried (asks_of c.args.asked.now) (race_of c.args.scenario.now) c.in_ok-search.search.explored c.in_ok-search.ensures.none)

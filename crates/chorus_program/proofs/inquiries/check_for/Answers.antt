@@ -13,7 +13,7 @@ returns-clause-checks g c =
       verdict = c.checked.ensures.verdict;
       ends = record {
         is = c.checked.ensures.finished;
-        checks = subst (λ (l : Layout). EndsAsCheck l c.args.most c.check.result g.S.Source.left g.S.Source.faults g.S.Source.reliable c.args.source.now c.check.new.source g.K.Sink.held g.K.Sink.faults c.args.sink.now c.check.new.sink) is
+        checks = subst (λ (l : Layout). EndsAsCheck l c.args.schedules c.check.result g.S.Source.left g.S.Source.faults g.S.Source.reliable c.args.source.now c.check.new.source g.K.Sink.held g.K.Sink.faults c.args.sink.now c.check.new.sink) is
             c.check.ensures;
       };
     }
@@ -21,10 +21,10 @@ returns-clause-checks g c =
 pub returns-clause-causes : goal.returns-clause-causes
 returns-clause-causes g c =
     let is : c.unwrap-layout.result ≡ replay_layout = cc in
-    causes-checked c.args.most g.S.Source.left g.S.Source.faults g.S.Source.reliable c.args.source.now c.check.new.source g.K.Sink.held g.K.Sink.faults c.args.sink.now c.check.new.sink
+    causes-checked c.args.schedules g.S.Source.left g.S.Source.faults g.S.Source.reliable c.args.source.now c.check.new.source g.K.Sink.held g.K.Sink.faults c.args.sink.now c.check.new.sink
     c.checked.result.finished c.check.result
     (record {
       is = c.checked.ensures.finished;
-      checks = subst (λ (l : Layout). EndsAsCheck l c.args.most c.check.result g.S.Source.left g.S.Source.faults g.S.Source.reliable c.args.source.now c.check.new.source g.K.Sink.held g.K.Sink.faults c.args.sink.now c.check.new.sink) is
+      checks = subst (λ (l : Layout). EndsAsCheck l c.args.schedules c.check.result g.S.Source.left g.S.Source.faults g.S.Source.reliable c.args.source.now c.check.new.source g.K.Sink.held g.K.Sink.faults c.args.sink.now c.check.new.sink) is
           c.check.ensures;
     })

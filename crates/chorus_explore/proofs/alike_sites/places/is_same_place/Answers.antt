@@ -25,7 +25,7 @@ are_same_packets-requires-clause-other c =
 
 pub returns : goal.returns
 returns c = λ e.
-    same-tables c.tables-mine.result.now c.tables-theirs.result.now c.args.one.now c.args.other.now
+    same-tables c.args.asks c.tables-mine.result.now c.tables-theirs.result.now c.args.one.now c.args.other.now
     c.tables-mine.ensures c.tables-theirs.ensures c.requires.layout c.requires.number
     (sym (c.records.ensures ∙ ap (λ (t : Table). t.records) c.ports.ensures) ∙ (c.if-not-are_same_records.ensures refl) ∙ c.records-2.ensures ∙ ap (λ (t : Table). t.records) c.ports-2.ensures)
     (sym c.hints.ensures ∙ (c.if-not-are_same_hints.ensures refl) ∙ c.hints-2.ensures)

@@ -62,9 +62,9 @@ loop-at-preserved c =
     let w = c.places-others.ensures.value in
     let n = ap length v ∙ as-many s t c.requires c.places-places.ensures.kept c.places-others.ensures.kept ∙ sym (ap length w) in
     let lt = c.loop-at-test.true in
-    let here = read-alike ps qs c.loop-at.at c.index-places-at.result c.index-others-at.result lt (omega (arith, lt, n)) c.index-places-at.is c.index-others-at.is
+    let here = read-alike c.args.asks ps qs c.loop-at.at c.index-places-at.result c.index-others-at.result lt (omega (arith, lt, n)) c.index-places-at.is c.index-others-at.is
     (c.in_ok-is_same_place.ensures (grind (arith, c.if-not-branch.false))) in
-    let next = below-next (λ i. (p q : Place) → slice_get s.places i ≡ Some p → slice_get t.places i ≡ Some q → SamePlace p q) c.loop-at.at c.loop-at.invariant
+    let next = below-next (λ i. (p q : Place) → slice_get s.places i ≡ Some p → slice_get t.places i ≡ Some q → SamePlace c.args.asks p q) c.loop-at.at c.loop-at.invariant
     (λ p q e f. here p q (ap (λ (xs : List Place). slice_get xs c.loop-at.at) v ∙ e) (ap (λ (xs : List Place). slice_get xs c.loop-at.at) w ∙ f)) in
     λ i l. next i (omega (arith, l))
 
@@ -73,7 +73,7 @@ returns c = λ e.
     let s = c.args.one.now in
     let t = c.args.other.now in
     let n = ap length c.places-places.ensures.value in
-    nets-alike c.args.scripts s t c.requires c.places-places.ensures.kept c.places-others.ensures.kept
+    nets-alike c.args.asks c.args.scripts s t c.requires c.places-places.ensures.kept c.places-others.ensures.kept
     (λ i l. c.loop-at.invariant i (let f = c.loop-at-test.false in omega (arith, l, f, n)))
     (λ k low high.
     subst (λ (ws : List Seated). CallerAlike (slice_get ws k) (slice_get t.callers k)) c.callers.ensures

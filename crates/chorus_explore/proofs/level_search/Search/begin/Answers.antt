@@ -2,7 +2,8 @@ use Rattle.std.proofs.Common.{false, [], None, refl, sym, ap, reverse, subst}
 use Rattle.law_replay.specs.Shown.{race_of}
 use Rattle.chorus_explore.specs.declared.level_search.Search.{Search}
 use Rattle.chorus_explore.specs.Classes.{StandsFor}
-use Rattle.chorus_explore.specs.Stages.{comes}
+use Rattle.chorus_explore.specs.Searches.{asks_of}
+use Rattle.chorus_explore.specs.Stages.{facts_at}
 use Rattle.chorus_explore.proofs.Searching.{first-within, root, root-stands}
 use Rattle.chorus_explore.proofs.level_search.Search.begin.Goals as goal
 
@@ -17,5 +18,5 @@ returns-clause-begun c =
       spare = c.new-3.result;
     } in
     let path = sym (ap reverse c.in_ok-stage.ensures.ok.1) in
-    c.in_ok-come_to.ensures.come 0 (root scene asked) (subst (λ h. StandsFor (race_of scene) 0 h 1 (root scene asked)) path (root-stands scene asked)) []
-    (first-within scene asked s c.new.ensures (c.in_ok-judged.ensures (comes scene)) refl refl refl refl c.new-2.ensures.items)
+    c.in_ok-come_to.ensures.come 0 (root scene asked) (subst (λ h. StandsFor (asks_of asked) (race_of scene) 0 h 1 (root scene asked)) path (root-stands scene asked)) []
+    (first-within scene asked s c.new.ensures (c.in_ok-judged.ensures.judged (facts_at scene)) refl refl refl refl c.new-2.ensures.items)

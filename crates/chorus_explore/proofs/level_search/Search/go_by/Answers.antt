@@ -7,6 +7,7 @@ use Rattle.law_replay.specs.Shown.{race_of}
 use Rattle.explore_report.specs.declared.explored.Explored.{Explored}
 use Rattle.chorus_explore.specs.declared.level_search.Search.{Search}
 use Rattle.chorus_explore.specs.Classes.{StandsFor, shown_by}
+use Rattle.chorus_explore.specs.Searches.{asks_of}
 use Rattle.chorus_explore.specs.Stages.{moves_of, position}
 use Rattle.chorus_explore.proofs.Searching.{come-by, cut-off, stands-on}
 use Rattle.chorus_explore.proofs.level_search.Search.go_by.Goals as goal
@@ -18,7 +19,7 @@ returns-then-is_enough-clause-go_on c = λ n m is.
     let ms = shown_by c.args.class.now in
     let mv = c.args.mv in
     let listed = (lists-next (race_of scene) (position scene ms) mv).0 c.requires.may in
-    let on = stands-on scene n ms c.args.class.now.number m mv is listed in
+    let on = stands-on (asks_of c.args.asked.now) scene n ms c.args.class.now.number m mv is listed in
     record {
       come = λ e. absurd (cc);
       cut = λ e pending. cut-off scene c.args.asked.now (suc n) s (record s { explored = record s.explored { is_cut = true } }) (going_by mv m.members ++ pending) refl (c.is_enough.ensures.enough c.if-is_enough.true)
@@ -44,9 +45,9 @@ returns-clause-go_on c = λ n m is.
     let mv = c.args.mv in
     let there = c.in_ok-stage.ensures.there in
     let path : moves_of c.go.new.self ≡ c.args.mv ∷ shown_by c.args.class.now =
-    ap reverse (c.in_ok-go.ensures.moves ∙ ap (λ xs. xs ++ c.args.mv ∷ []) (there.1 ∙ c.deref.ensures.value)) ∙ reverse-append c.args.class.now.moves.items (mv ∷ []) in
+    ap reverse (c.in_ok-go.ensures.moves ∙ ap (λ xs. xs ++ c.args.mv ∷ []) (there.moves_are ∙ c.deref.ensures.value)) ∙ reverse-append c.args.class.now.moves.items (mv ∷ []) in
     let listed = (lists-next (race_of scene) (position scene ms) mv).0 c.requires.may in
-    let on = stands-on scene n ms c.args.class.now.number m mv is listed in
+    let on = stands-on (asks_of c.args.asked.now) scene n ms c.args.class.now.number m mv is listed in
     let kept = c.stage_there.ensures.kept in
     let e = c.stage_there.new.self.explored in
     let t : Search = record c.stage_there.new.self { explored = record e { events = e.events + 1 } } in
@@ -54,7 +55,7 @@ returns-clause-go_on c = λ n m is.
     let below = c.is_enough.ensures.goes_on c.if-is_enough.false in
     record {
       come = λ yes pending w. c.in_ok-come_to.ensures.come (suc n) (with_move mv m)
-          (subst (λ k. StandsFor (race_of scene) (suc n) k c.args.class.now.number (with_move mv m)) (sym path) on) pending
+          (subst (λ k. StandsFor (asks_of c.args.asked.now) (race_of scene) (suc n) k c.args.class.now.number (with_move mv m)) (sym path) on) pending
           (come-by scene c.args.asked.now (suc n) c.args.self.now t (going_by mv m.members ++ pending) (ap (λ (x : Explored). x.findings) kept.0) (ap (λ (x : Explored). x.judged) kept.0) (ap (λ (x : Explored). x.histories) kept.0)
           (omega (arith, events, below)) (ap (λ (x : Explored). x.is_cut) kept.0) (ap (λ (x : Explored). x.bound) kept.0) kept.1 w);
       cut = λ no_. absurd (cc);

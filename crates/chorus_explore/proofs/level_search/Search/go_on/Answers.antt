@@ -7,7 +7,7 @@ use Rattle.law_explore.specs.Positions.{next_behind}
 use Rattle.chorus_explore.specs.declared.level_search.Class.{Class}
 use Rattle.chorus_explore.specs.declared.level_search.Search.{Search}
 use Rattle.chorus_explore.specs.Classes.{shown_by}
-use Rattle.chorus_explore.specs.Searches.{Come}
+use Rattle.chorus_explore.specs.Searches.{Come, asks_of}
 use Rattle.chorus_explore.proofs.Carrying.{sum-all, sum-more, sum-within}
 use Rattle.chorus_explore.proofs.Searching.{as-many-stand, class-come, class-cut, flat-all, same-within, stand-at}
 use Rattle.chorus_explore.proofs.level_search.Search.go_on.Goals as goal
@@ -19,7 +19,7 @@ returns-then-not-branch-clause-go_on c = λ n ms stand.
     let i = c.loop-index.index in
     let class = c.index-level-index.result in
     let at = slice_get_read level (length level) i class refl c.loop-index-test.true c.index-level-index.is in
-    let one = stand-at (race_of scene) n level ms i class stand at in
+    let one = stand-at (asks_of c.args.asked.now) (race_of scene) n level ms i class stand at in
     let no_ : c.go_on_from.result ≡ Ok false = c.in_ok-go_on_from.was ∙ ap (λ b. Ok b) (grind (arith, c.if-not-branch.true)) in
     let on = c.go_on_from.ensures.go_on n one.0 one.1.1 in
     let s : Search = record c.args.self.now { last = c.take-last.new.self } in
@@ -37,9 +37,9 @@ loop-index-preserved c =
     let class = c.index-level-index.result in
     let at = slice_get_read level (length level) i class refl c.loop-index-test.true c.index-level-index.is in (
       c.in_ok-go_on_from.ensures.ready,
-      (c.take_if-kept.ensures scene c.loop-index.invariant.1).1,
+      (c.take_if-kept.ensures (asks_of c.args.asked.now) scene c.loop-index.invariant.1).1,
       λ n ms stand.
-          (let one = stand-at (race_of scene) n level ms i class stand at in
+          (let one = stand-at (asks_of c.args.asked.now) (race_of scene) n level ms i class stand at in
           let yes : c.go_on_from.result ≡ Ok true = c.in_ok-go_on_from.was ∙ ap (λ b. Ok b) (grind (arith, c.if-not-branch.false)) in
           class-come scene c.args.asked.now n level ms stand i class at (record c.args.self.now { last = c.take-last.new.self }) c.loop-index.self c.go_on_from.new.self (c.loop-index.invariant.2 n ms stand)
           ((c.go_on_from.ensures.go_on n one.0 one.1.1).come yes)),
@@ -56,7 +56,7 @@ pub returns-clause-go_on : goal.returns-clause-go_on
 returns-clause-go_on c = λ n ms stand.
     let scene = c.args.scenario.now in
     let level = c.args.level.now in
-    let all = as-many-stand (race_of scene) n level ms stand in
+    let all = as-many-stand (asks_of c.args.asked.now) (race_of scene) n level ms stand in
     let passed = flat-all (λ (m : Merged). going_on (next_behind (race_of scene) m.shows) m.members) ms c.loop-index.index (let e = c.loop-index-test.false in omega (arith, all, e)) in
     let s : Search = record c.args.self.now { last = c.take-last.new.self } in
     record {

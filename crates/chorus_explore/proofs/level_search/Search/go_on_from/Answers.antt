@@ -7,7 +7,7 @@ use Rattle.law_explore.proofs.Exploring.{lists-next}
 use Rattle.law_replay.specs.Shown.{race_of}
 use Rattle.explore_report.specs.declared.explored.Explored.{Explored}
 use Rattle.chorus_explore.specs.Classes.{shown_by}
-use Rattle.chorus_explore.specs.Searches.{Come, IsWithin, LeadsThere}
+use Rattle.chorus_explore.specs.Searches.{Come, IsWithin, LeadsThere, asks_of}
 use Rattle.chorus_explore.specs.Stages.{position}
 use Rattle.chorus_explore.proofs.Searching.{flat-all, listed-at, move-come, move-cut, same-within}
 use Rattle.chorus_explore.proofs.level_search.Search.go_on_from.Goals as goal
@@ -19,7 +19,7 @@ go_by-requires-clause-may c =
     let lt : c.loop-index.index < length c.in_ok-moves.moves.items = (let a = c.loop-index-test.true in let b = c.len-index-end.ensures in omega (arith, a, b)) in
     let at = slice_get_read moves (length moves) c.loop-index.index c.index.result.now refl lt c.index.ensures in
     let there = c.in_ok-stage.ensures.there in
-    let listed = c.in_ok-moves.ensures.items ∙ ap (λ xs. next_behind (race_of c.args.scenario.now) (reverse xs)) (there.1 ∙ c.deref-2.ensures.value) in
+    let listed = c.in_ok-moves.ensures.items ∙ ap (λ xs. next_behind (race_of c.args.scenario.now) (reverse xs)) (there.moves_are ∙ c.deref-2.ensures.value) in
     (lists-next (race_of scene) (position scene (shown_by c.args.class.now)) c.index.result.now).1
     (listed-at c.in_ok-moves.moves.items (next_behind (race_of scene) (shown_by c.args.class.now)) c.loop-index.index c.index.result.now at listed)
 
@@ -33,7 +33,7 @@ returns-then-not-branch-clause-go_on c = λ n m is.
     let at = slice_get_read moves (length moves) i mv refl lt c.index.ensures in
     let no_ : c.go_by.result ≡ Ok false = c.in_ok-go_by.was ∙ ap (λ b. Ok b) (grind (arith, c.if-not-branch.true)) in
     let there = c.in_ok-stage.ensures.there in
-    let listed = c.in_ok-moves.ensures.items ∙ ap (λ xs. next_behind (race_of c.args.scenario.now) (reverse xs)) (there.1 ∙ c.deref-2.ensures.value) in
+    let listed = c.in_ok-moves.ensures.items ∙ ap (λ xs. next_behind (race_of c.args.scenario.now) (reverse xs)) (there.moves_are ∙ c.deref-2.ensures.value) in
     let s = c.stage_there.new.self in
     let same = c.stage_there.ensures.kept in
     record {
@@ -54,7 +54,7 @@ loop-index-preserved c =
     let at = slice_get_read moves (length moves) i mv refl lt c.index.ensures in
     let yes : c.go_by.result ≡ Ok true = c.in_ok-go_by.was ∙ ap (λ b. Ok b) (grind (arith, c.if-not-branch.false)) in (
       c.in_ok-go_by.ensures.ready,
-      subst (LeadsThere scene c.args.class.now.moves.items) (sym c.take.ensures.after) tt,
+      subst (LeadsThere (asks_of c.args.asked.now) scene c.args.class.now.moves.items) (sym c.take.ensures.after) tt,
       λ n m is.
           move-come scene c.args.asked.now (suc n) moves m.members i mv at c.stage_there.new.self c.loop-index.self c.go_by.new.self (c.loop-index.invariant.2 n m is)
           ((c.go_by.ensures.go_on n m is).come yes),
@@ -67,7 +67,7 @@ returns-clause-go_on c = λ n m is.
     let scene = c.args.scenario.now in
     let moves = c.in_ok-moves.moves.items in
     let there = c.in_ok-stage.ensures.there in
-    let listed = c.in_ok-moves.ensures.items ∙ ap (λ xs. next_behind (race_of c.args.scenario.now) (reverse xs)) (there.1 ∙ c.deref-2.ensures.value) in
+    let listed = c.in_ok-moves.ensures.items ∙ ap (λ xs. next_behind (race_of c.args.scenario.now) (reverse xs)) (there.moves_are ∙ c.deref-2.ensures.value) in
     let passed = flat-all (λ (mv : Move). going_by mv m.members) moves c.loop-index.index (let e = c.loop-index-test.false in let l = c.len-index-end.ensures in omega (arith, e, l)) in
     let s = c.stage_there.new.self in
     let same = c.stage_there.ensures.kept in
@@ -81,7 +81,7 @@ returns-clause-go_on c = λ n m is.
 pub returns-then-not-branch-clause-carries : goal.returns-then-not-branch-clause-carries
 returns-then-not-branch-clause-carries c =
     let there = c.in_ok-stage.ensures.there in
-    let long = ap length (c.in_ok-moves.ensures.items ∙ ap (λ xs. next_behind (race_of c.args.scenario.now) (reverse xs)) (there.1 ∙ c.deref-2.ensures.value)) in
+    let long = ap length (c.in_ok-moves.ensures.items ∙ ap (λ xs. next_behind (race_of c.args.scenario.now) (reverse xs)) (there.moves_are ∙ c.deref-2.ensures.value)) in
     let no_ : c.go_by.result ≡ Ok false = c.in_ok-go_by.was ∙ ap (λ b. Ok b) (grind (arith, c.if-not-branch.true)) in
     let some = c.go_by.ensures.carries.some no_ in
     let same = c.stage_there.ensures.kept.0 in
@@ -97,7 +97,7 @@ returns-then-not-branch-clause-carries c =
 pub returns-clause-carries : goal.returns-clause-carries
 returns-clause-carries c =
     let there = c.in_ok-stage.ensures.there in
-    let long = ap length (c.in_ok-moves.ensures.items ∙ ap (λ xs. next_behind (race_of c.args.scenario.now) (reverse xs)) (there.1 ∙ c.deref-2.ensures.value)) in
+    let long = ap length (c.in_ok-moves.ensures.items ∙ ap (λ xs. next_behind (race_of c.args.scenario.now) (reverse xs)) (there.moves_are ∙ c.deref-2.ensures.value)) in
     let same = c.stage_there.ensures.kept.0 in
     let events : c.stage_there.new.self.explored.events ≡ c.args.self.now.explored.events = ap (λ (x : Explored). x.events) same in
     let was = c.loop-index.invariant.3 in

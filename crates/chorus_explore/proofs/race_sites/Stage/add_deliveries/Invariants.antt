@@ -6,5 +6,5 @@ use Rattle.chorus_explore.proofs.race_sites.Stage.add_deliveries.Given as goal
 
 -- those from the places passed are added
 abbrev pub invariant-loop-index : goal.invariant-loop-index
-invariant-loop-index l = IsReached l.scenario l.self × (l.self.moves ≡ l.initial.self.moves)
+invariant-loop-index l = IsReached l.scenario l.self × (l.self.moves ≡ l.initial.self.moves) × (l.self.asks ≡ l.initial.self.asks)
     × (l.moves.items ≡ l.initial.moves.items ++ coming l.scenario (moves_of l.initial.self) (links_between (numbers l.index 1) (place_numbers l.scenario.layout)))

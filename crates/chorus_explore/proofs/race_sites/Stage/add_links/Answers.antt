@@ -14,10 +14,11 @@ loop-index-preserved c =
     let l = c.loop-index in
     let inv = l.invariant in (
       c.add_link.ensures.reached,
-      c.add_link.ensures.moves ∙ inv.1,
+      c.add_link.ensures.moves.0 ∙ inv.1,
+      c.add_link.ensures.moves.1 ∙ inv.2,
       link-more scene (moves_of c.args.self.now) c.args.from l.index c.args.moves.now.items l.moves.items _
           (c.in_ok-add_link.ensures.items ∙ ap (λ v. l.moves.items ++ coming scene (reverse v.items) (Carry c.args.from (l.index + 1) ∷ [])) inv.1)
-          inv.2,
+          inv.3,
     )
 
 pub is_idle-requires : goal.is_idle-requires

@@ -1,13 +1,13 @@
 use Rattle.std.proofs.Common.{ℕ, ◌≡◌, ◌<◌, ◌+◌, ◌++◌, length, set, get_or, slice_get, Some, refl, sym, ◌∙◌, ap, arith}
+use Rattle.std.specs.Option.{option_map}
 use Rattle.std.proofs.lemmas.Option.{slice_get_read}
 use Rattle.std.proofs.lemmas.Result.{err_from_is_err_and}
 use Rattle.chorus_ui.specs.declared.layout.Layout.{Layout}
 use Rattle.chorus_ui.specs.Layout.{has_place}
 use Rattle.chorus_entry.specs.declared.entry.Entry.{Entry}
-use Rattle.law_explore.specs.Outcome.{Answered}
-use Rattle.law_network.specs.Network.{Act, happened}
+use Rattle.law_network.specs.Network.{Act, happened, replied}
 use Rattle.chorus_net.specs.Sites.{net}
-use Rattle.explore_report.specs.Facts.{fact_line}
+use Rattle.chorus_explore.specs.Tellings.{answered_line, settles_in}
 use Rattle.chorus_explore.proofs.Answering.{answered-by, next-few, performed-by, script-below, wears-next}
 use Rattle.chorus_explore.proofs.Entering.{exit}
 use Rattle.chorus_explore.proofs.Moving.{layout-at, of-script, some-same, within}
@@ -46,8 +46,8 @@ offset_bounds-journal-at c =
     let below = within c.journal.result.now c.in_ok-at.at a.entry a.stands in
     omega (arith, below, c.journal.type_inv.1)
 
-pub index_mut-requires : goal.index_mut-requires
-index_mut-requires c =
+pub index_mut-script-requires : goal.index_mut-script-requires
+index_mut-script-requires c =
     let lt = script-below c.args.scenario.now c.args.self.now c.args.index c.args.command.now c.requires.reached c.requires.next in
     let e = c.from-2.ensures in
     omega (arith, lt, e, c.args.self.now.scripts.ok.0)
@@ -56,8 +56,8 @@ pub answered-requires : goal.answered-requires
 answered-requires c =
     let s = c.args.self.now in
     let lt : c.from-2.result < length s.scripts.items = (let b = script-below c.args.scenario.now s c.args.index c.args.command.now c.requires.reached c.requires.next in let e = c.from-2.ensures in omega (arith, b, e)) in
-    let found : slice_get s.scripts.items c.args.index ≡ Some c.index_mut.result.now = ap (λ (n : ℕ). slice_get s.scripts.items n) (sym c.from-2.ensures) ∙ slice_get_read _ _ _ _ refl lt c.index_mut.ensures.value in
-    let few = next-few c.args.scenario.now s c.args.index c.args.command.now c.index_mut.result.now c.requires.reached c.requires.next c.layout-scene.ensures.keeps found in
+    let found : slice_get s.scripts.items c.args.index ≡ Some c.index_mut-script.result.now = ap (λ (n : ℕ). slice_get s.scripts.items n) (sym c.from-2.ensures) ∙ slice_get_read _ _ _ _ refl lt c.index_mut-script.ensures.value in
+    let few = next-few c.args.scenario.now s c.args.index c.args.command.now c.index_mut-script.result.now c.requires.reached c.requires.next c.layout-scene.ensures.keeps found in
     omega (arith, few)
 
 pub returns-clause-at : goal.returns-clause-at
@@ -66,7 +66,7 @@ returns-clause-at c =
     let s = c.args.self.now in
     let i = c.args.index in
     let d = c.args.command.now in
-    let old = c.index_mut.result.now in
+    let old = c.index_mut-script.result.now in
     let new = c.answered.new.self in
     let act = (get_or c.journal.result.now c.in_ok-at.at c.index-journal-at.result).act in
     let a = answered-by scene s c.requires.reached i d c.requires.next c.from.result _ c.where_performed-place.result (net c.act_at.new.sites) c.journal.result.now c.in_ok-at.at c.from.ensures
@@ -74,11 +74,14 @@ returns-clause-at c =
     let at : slice_get c.journal.result.now c.in_ok-at.at ≡ Some c.index-journal-at.result =
     slice_get_read _ _ _ _ refl (within c.journal.result.now c.in_ok-at.at a.entry a.stands) c.index-journal-at.is in
     let lt : c.from-2.result < length s.scripts.items = (let b = script-below scene s i d c.requires.reached c.requires.next in let e = c.from-2.ensures in omega (arith, b, e)) in
-    let found : slice_get s.scripts.items i ≡ Some c.index_mut.result.now = ap (λ (n : ℕ). slice_get s.scripts.items n) (sym c.from-2.ensures) ∙ slice_get_read _ _ _ _ refl lt c.index_mut.ensures.value in
-    performed-by scene s _ i d old new act c.requires.reached c.requires.next
+    let found : slice_get s.scripts.items i ≡ Some c.index_mut-script.result.now = ap (λ (n : ℕ). slice_get s.scripts.items n) (sym c.from-2.ensures) ∙ slice_get_read _ _ _ _ refl lt c.index_mut-script.ensures.value in
+    performed-by scene s _ i d old new act c.in_ok-at.settles c.requires.reached c.requires.next
     (c.in_ok-at.ensures.ok ∙ ap (λ (k : ℕ). happened (Act (k + 1) d) (net s.sites)) c.from.ensures)
-    found (ap (λ (k : ℕ). set s.scripts.items k c.answered.new.self) c.from-2.ensures)
+    found (ap (λ (k : ℕ). set s.scripts.items k c.answered.new.self) c.from-2.ensures) refl
     (ap (λ (e : Entry). e.act) (sym c.index-journal-at.is ∙ some-same c.index-journal-at.result a.entry (sym at ∙ a.stands)) ∙ a.act)
+    (c.in_ok-at.ensures.settles ∙ ap (λ (k : ℕ). option_map settles_in (replied (k + 1) d (net s.sites))) c.from.ensures)
     c.in_ok-answered.ensures.next
-    (c.in_ok-answered.ensures.answers ∙ ap (λ (k : ℕ). c.index_mut.result.now.answers.items ++ fact_line (Answered (k + 1) (c.index_mut.result.now.next + 1) (get_or c.journal.result.now c.in_ok-at.at c.index-journal-at.result).act)) c.from-3.ensures)
+    (c.in_ok-answered.ensures.answers
+    ∙ ap (λ (k : ℕ). c.index_mut-script.result.now.answers.items ++ answered_line s.asks (k + 1) (c.index_mut-script.result.now.next + 1) (get_or c.journal.result.now c.in_ok-at.at c.index-journal-at.result).act c.in_ok-at.settles)
+    c.from-3.ensures)
     c.in_ok-answered.ensures.posts

@@ -1,6 +1,6 @@
 use Rattle.std.proofs.Common.{sym, ◌∙◌, arith}
 use Rattle.chorus_explore.proofs.AlikeSites.Telling.{entries-tell, empty-in}
-use Rattle.chorus_explore.proofs.alike_sites.journals.are_told_alike.Goals as goal
+use Rattle.chorus_explore.proofs.alike_sites.journals.tell_alike.Goals as goal
 
 pub returns : goal.returns
 returns c = λ e.
