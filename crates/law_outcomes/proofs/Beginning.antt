@@ -1,6 +1,6 @@
 -- Behind the setup, whoever delivers and sees entries, the network is alike to that where the race begins.
 -- c is a scenario, comers are those who come, l a layout, fs are events of the setup, the latest first, d is a command, k a seat, i the place of a script.
-use Rattle.std.proofs.Common.{ℕ, zero, suc, ◌≡◌, ◌≤◌, ◌+◌, ◌==◌, nat_le, max, Bool, true, false, not, cond, List, [], ◌∷◌, ◌++◌, length, map, reverse, option_to_list, Option, Some, None, is_some, slice_get, slice_set, refl, sym, ◌∙◌, ap, subst, arith, append_assoc}
+use Rattle.std.proofs.Common.{ℕ, zero, suc, ◌≡◌, ◌≤◌, ◌+◌, ◌==◌, max, Bool, true, false, cond, List, [], ◌∷◌, ◌++◌, length, map, reverse, option_to_list, Option, Some, None, is_some, slice_get, slice_set, refl, sym, ◌∙◌, ap, subst, arith, append_assoc}
 use Rattle.std.specs.List.{All}
 use Rattle.std.specs.Option.{option_map}
 use Rattle.std.proofs.lemmas.Bool.{ne_eqb}
@@ -9,26 +9,19 @@ use Rattle.std.proofs.lemmas.List.Elements.{All-nil, All-cons, All-head, All-tai
 use Rattle.std.proofs.lemmas.Option.{slice_get-map}
 use Rattle.chorus_ui.specs.declared.ui.Ui.{Ui}
 use Rattle.chorus_ui.specs.declared.layout.Layout.{Layout}
-use Rattle.chorus_ui.specs.Layout.{has_actor, has_site}
 use Rattle.chorus_entry.specs.declared.act.Act as act_type
-use Rattle.chorus_entry.specs.declared.act.Act.TheVariants as acts
 use Rattle.chorus_entry.specs.declared.command.Command.{Command}
-use Rattle.chorus_ui.specs.declared.limits.TheConstants.{GROUPS_PER_SITE_LIMIT, MEMBERS_LIMIT}
-use Rattle.chorus_entry.specs.Members.{is_member}
-use Rattle.chorus_world.specs.Groups.{groups_made, members}
-use Rattle.chorus_world.specs.Steps.{is_full_of_ports}
-use Rattle.chorus_world.specs.Views.{is_group}
 use Rattle.chorus_calls.specs.Callers.{Seated, after_tick, new_caller, raised}
-use Rattle.law_arrows.specs.Arrows.{served, worked_off}
-use Rattle.law_machine.specs.PlaceState.{PlaceState, Turn}
+use Rattle.law_arrows.specs.Arrows.{worked_off}
+use Rattle.law_machine.specs.PlaceState.{PlaceState}
 use Rattle.law_machine.specs.PlaceMachine.{act, begun}
 use Rattle.law_machine.specs.Doing.{does}
-use Rattle.law_machine.specs.Own.{next_group, next_port}
+use Rattle.law_machine.proofs.Machine.Owns.{IsOwn, Makes, Groups, Joins, is-own}
 use Rattle.law_history.specs.Journals.{Comer, coming, new_from}
 use Rattle.law_history.specs.Runs.{actor_among}
 use Rattle.law_history.proofs.Arriving.{all-come}
 use Rattle.law_network.specs.Calls.{first_actor, last_of, starting}
-use Rattle.law_network.specs.Network.{NetState, Event, Enter, Act, Deliver, See, after, commanded, delivered, happened, opening, place, schedule, shown, turn_for, works_off}
+use Rattle.law_network.specs.Network.{NetState, Event, Enter, Act, Deliver, See, after, commanded, delivered, happened, opening, schedule, shown, turn_for, works_off}
 use Rattle.law_network.specs.Packets.{first_on, put_all}
 use Rattle.law_network.specs.Schedules.{command_in, commands_of}
 use Rattle.law_network.proofs.Merge.Parts.{All-reverse}
@@ -36,6 +29,7 @@ use Rattle.law_network.proofs.Places.Layouts.{schedule-keeps}
 use Rattle.law_network.proofs.Standing.CallerList.{get-other}
 use Rattle.law_explore.specs.Alike.{ActAlike, CallerAlike, NetsAlike, PlacesAlike, unclocked}
 use Rattle.law_explore.specs.Races.{own_by}
+use Rattle.law_moments.specs.Answers.{answer_by, answered_by}
 use Rattle.law_explore.proofs.Alike.{keep_acts}
 use Rattle.law_explore.proofs.Nets.{command-alike}
 use Rattle.law_replay.specs.Shown.{race_of}
@@ -50,7 +44,6 @@ use Rattle.law_outcomes.specs.Anybody.{IsOfRace, IsOfSetup}
 use Rattle.law_outcomes.proofs.Anybody.{replaced, sees-alike}
 use Rattle.law_outcomes.proofs.Counting.{idle-first}
 use Rattle.law_outcomes.proofs.Following.{Follows, unserved}
-use Rattle.law_outcomes.proofs.Owning.{answer_by, answered_by}
 use Rattle.law_outcomes.proofs.Silent.{silent-first}
 
 -- Commands of events.
@@ -112,23 +105,22 @@ race-gives (Act k d) h = λ cs. ap (λ (b : Bool). cond b (d ∷ cs) cs) (ne_eqb
 abbrev pub PutsNothing : Command → Type 0
 PutsNothing d = (s : PlaceState) (w : Seated) → (act d (begun s w)).puts ≡ []
 
-either-none : (b : Bool) (x y : act_type.Act) (t : Turn) → (does x t).puts ≡ [] → (does y t).puts ≡ [] → (does (cond b x y) t).puts ≡ []
-either-none true x y t h k = h
-either-none false x y t h k = k
-
-three-none : (a b : Bool) (x y z : act_type.Act) (t : Turn) → (does x t).puts ≡ [] → (does y t).puts ≡ [] → (does z t).puts ≡ [] → (does (cond a x (cond b y z)) t).puts ≡ []
-three-none true b x y z t h k m = h
-three-none false b x y z t h k m = either-none b y z t k m
-
 line-none : (line : SetupLine) → PutsNothing (setup_command line)
-line-none (setups.Port actor capacity) s w =
-    three-none (not (has_actor s.layout actor)) (is_full_of_ports s.layout s.journal) (acts.NoActor actor) (acts.MakeFull actor) (acts.Make (next_port s actor) actor capacity) (begun s w) refl refl refl
-line-none (setups.Group site) s w =
-    three-none (not (has_site s.layout site)) (nat_le GROUPS_PER_SITE_LIMIT (groups_made s.journal)) (acts.NoSite site) (acts.GroupsFull site) (acts.GroupMake (next_group s site)) (begun s w) refl refl refl
-line-none (setups.Member g q) s w =
-    let full = nat_le MEMBERS_LIMIT (length (members g s.journal)) in
-    either-none (not (is_group g s.journal)) (acts.NoGroup g) (cond (is_member q (members g s.journal)) (acts.There g q) (cond full (acts.MembersFull g) (acts.Join g q))) (begun s w) refl
-    (three-none (is_member q (members g s.journal)) full (acts.There g q) (acts.MembersFull g) (acts.Join g q) (begun s w) refl refl refl)
+line-none (setups.Port actor capacity) s w = by (is-own (Command.Make actor capacity) (begun s w))
+  where
+    by : {a : act_type.Act} → IsOwn (begun s w) (Command.Make actor capacity) a → (does a (begun s w)).puts ≡ []
+    by (Makes _ _ e f) = refl
+    by _ = refl
+line-none (setups.Group site) s w = by (is-own (Command.GroupMake site) (begun s w))
+  where
+    by : {a : act_type.Act} → IsOwn (begun s w) (Command.GroupMake site) a → (does a (begun s w)).puts ≡ []
+    by (Groups _ e f) = refl
+    by _ = refl
+line-none (setups.Member g q) s w = by (is-own (Command.Join g q) (begun s w))
+  where
+    by : {a : act_type.Act} → IsOwn (begun s w) (Command.Join g q) a → (does a (begun s w)).puts ≡ []
+    by (Joins _ _ e f r) = refl
+    by _ = refl
 
 pub none-put : (lines : List SetupLine) → All PutsNothing (map setup_command lines)
 none-put [] = All-nil PutsNothing

@@ -1,5 +1,5 @@
 -- How many moves a history has: the commands that were answered, and the packets that were worked off.
--- c is a scenario, ms are moves, es events, both with the latest first, told are the acts that answered.
+-- c is a scenario, ms are moves, es events, both with the latest first, told are what answered.
 use Rattle.std.proofs.Common.{ℕ, zero, suc, ◌≡◌, ◌+◌, Bool, true, false, ◌&&◌, cond, List, [], ◌∷◌, ◌++◌, length, map, reverse, option_to_list, Option, Some, None, is_some, slice_get, slice_set, refl, sym, ◌∙◌, ap, subst, arith}
 use Rattle.std.specs.List.{All, flat_map}
 use Rattle.std.specs.Option.{option_map}
@@ -7,21 +7,20 @@ use Rattle.std.proofs.lemmas.Bool.{and_parts, false≢true}
 use Rattle.std.proofs.lemmas.List.{length-append}
 use Rattle.std.proofs.lemmas.List.Elements.{All-nil, All-cons, All-head, All-tail, All-append}
 use Rattle.chorus_ui.specs.declared.layout.Layout.{Layout}
-use Rattle.chorus_entry.specs.declared.act.Act as acts
 use Rattle.chorus_entry.specs.declared.command.Command.{Command}
 use Rattle.chorus_entry.specs.declared.packet.Packet.{Packet}
 use Rattle.chorus_calls.specs.Callers.{Seated}
 use Rattle.law_arrows.specs.Arrows.{served, served_by, worked_off}
-use Rattle.law_machine.specs.Own.{own}
 use Rattle.law_network.specs.Calls.{starting}
 use Rattle.law_network.specs.Network.{NetState, Event, Act, Deliver, schedule, turn_for}
 use Rattle.law_network.specs.Packets.{first_on}
 use Rattle.law_network.proofs.Merge.Parts.{All-reverse}
 use Rattle.law_explore.specs.declared.moves.Move.{Move}
 use Rattle.law_explore.specs.declared.moves.Move.TheVariants.{Go, Carry}
-use Rattle.law_explore.specs.Races.{Position, are_linked, is_ready_by, next_of, own_by, position_after, replaying, with_answer}
+use Rattle.law_explore.specs.Races.{Position, Told, are_linked, is_ready_by, next_of, own_by, position_after, replaying, told_in, with_answer}
 use Rattle.law_explore.specs.Replays.{events_of}
 use Rattle.law_explore.specs.Search.{IsHistory}
+use Rattle.law_moments.specs.Answers.{answered_by}
 use Rattle.law_replay.specs.Shown.{race_of}
 use Rattle.chorus_scene.specs.Scene.{Scene, Script}
 use Rattle.chorus_report.specs.Setup.{setup_commands}
@@ -29,18 +28,17 @@ use Rattle.chorus_replay.specs.Order.{entering, in_setup}
 use Rattle.chorus_explore.specs.Stages.{position}
 use Rattle.chorus_explore.proofs.Happening.{events, left-none, net-is}
 use Rattle.chorus_explore.proofs.Racing.{base}
-use Rattle.law_outcomes.proofs.Owning.{answered_by}
 use Rattle.law_outcomes.proofs.Silent.{told-at}
 
 -- Lists of lists.
 
-abbrev pub all_in : List (List acts.Act) → List acts.Act
-all_in told = flat_map (λ (acts : List acts.Act). acts) told
+abbrev pub all_in : List (List Told) → List Told
+all_in told = flat_map (λ (its : List Told). its) told
 
 -- one act more in one of them
-one-more : (told : List (List acts.Act)) (i : ℕ) (was : List acts.Act) (a : acts.Act) → slice_get told i ≡ Some was → length (all_in (slice_set told i (a ∷ was))) ≡ suc (length (all_in told))
+one-more : (told : List (List Told)) (i : ℕ) (was : List Told) (a : Told) → slice_get told i ≡ Some was → length (all_in (slice_set told i (a ∷ was))) ≡ suc (length (all_in told))
 one-more [] i was a e = absurd (cc)
-one-more (x ∷ told) zero was a e = (let same : x ≡ was = cc in ap (λ (y : List acts.Act). suc (length (y ++ all_in told))) (sym same))
+one-more (x ∷ told) zero was a e = (let same : x ≡ was = cc in ap (λ (y : List Told). suc (length (y ++ all_in told))) (sym same))
 one-more (x ∷ told) (suc i) was a e =
     let ih = one-more told i was a e in
     let b = length-append x (all_in (slice_set told i (a ∷ was))) in
@@ -89,13 +87,13 @@ module _ (c : Scene) where
     After o m = length (all_in (position_after o m s).told) + length (worked_off c.layout ((option_to_list o ++ events_of (race_of c) ms) ++ reverse (base c))) ≡ suc (length ms)
 
     -- a command is answered by one act
-    answered : (j : ℕ) (d : Command) (was : List acts.Act) (w : Seated) → slice_get s.told j ≡ Some was → slice_get s.net.callers (suc j) ≡ Some w → After (Some (Act (suc j) d)) (Go j)
+    answered : (j : ℕ) (d : Command) (was : List Told) (w : Seated) → slice_get s.told j ≡ Some was → slice_get s.net.callers (suc j) ≡ Some w → After (Some (Act (suc j) d)) (Go j)
     answered j d was w told there =
         let a = own_by d s.net (Some w) in
         let rest = length (worked_off c.layout (events c ms)) in
         ap (λ o. length (all_in (slice_set s.told j (with_answer (own_by d s.net o) (slice_get s.told j)))) + rest) there
         ∙ ap (λ o. length (all_in (slice_set s.told j (with_answer a o))) + rest) told
-        ∙ (let more = one-more s.told j was (own d (turn_for d w s.net)) told in omega (arith, more, ih))
+        ∙ (let more = one-more s.told j was (told_in d (turn_for d w s.net)) told in omega (arith, more, ih))
 
     -- a delivery works one packet off
     delivered : (a b : ℕ) → is_some (slice_get s.net.callers 0) && is_some (first_on a b s.net.packets) ≡ true → After (Some (Deliver 0 a b)) (Carry a b)

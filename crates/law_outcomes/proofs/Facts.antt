@@ -1,9 +1,10 @@
 -- The lines of facts say what the facts are: each is read back by the entry that has the same words.
 -- x is an id, q a port, a and b are acts or answers, c is a byte, t a text, f and g are facts.
-use Rattle.std.proofs.Common.{ℕ, ◌≡◌, ◌<◌, ◌^◌, ◌==◌, Bool, true, false, ◌&&◌, not, if◌then◌else◌, List, [], ◌∷◌, ◌++◌, map, drop, codes, decimal, Option, Some, None, option_map, IfSome, refl, sym, ◌∙◌, ap, ap₂, append_assoc, append-nil, arith}
+use Rattle.std.proofs.Common.{ℕ, ◌≡◌, ◌<◌, ◌^◌, ◌==◌, Bool, true, false, ◌&&◌, not, if◌then◌else◌, List, [], ◌∷◌, ◌++◌, map, drop, codes, decimal, Option, Some, None, option_map, IfSome, refl, sym, ◌∙◌, ap, ap₂, subst, append_assoc, append-nil, arith}
 use Rattle.std.specs.Char.{is_ascii_digit}
 use Rattle.std.specs.Str.{bytes_eq}
 use Rattle.std.proofs.lemmas.Bool.{and_parts, eq-eqb, eqb-true, false≢true, not-true}
+use Rattle.std.proofs.lemmas.List.{append_cancel_left}
 use Rattle.std.proofs.lemmas.List.Elements.{All-head, All-tail}
 use Rattle.chorus_ui.specs.declared.kind.Kind.{Kind}
 use Rattle.chorus_ui.specs.declared.kind.Kind.TheVariants as kinds
@@ -20,14 +21,15 @@ use Rattle.chorus_entry.specs.declared.answer.Answer.{Answer}
 use Rattle.chorus_entry.specs.declared.answer.Answer.TheVariants as answers
 use Rattle.chorus_entry.specs.declared.entry.Entry.{Entry}
 use Rattle.chorus_entry.specs.declared.id.MsgId.{MsgId}
-use Rattle.chorus_show.specs.Bounds.{AreIds, IsAct, IsAnswer, IsId}
+use Rattle.chorus_show.specs.Bounds.{AreIds, AreNames, IsAct, IsAnswer, IsId}
 use Rattle.chorus_show.specs.Lines.{act_text, answer_text}
 use Rattle.chorus_show.specs.Phrases.{id_text, phrase, spaced}
-use Rattle.chorus_show.specs.Reading.{act_in, act_of, answer_in, below, decision_of, entry_in, entry_of, first, four, fourth, id_in, id_of, lacks, news_of, parts, port_of, second, third, three, two, u16_in, u32_in}
+use Rattle.chorus_show.specs.Reading.{act_in, act_of, answer_in, below, decision_of, entry_in, entry_of, first, four, fourth, id_in, id_in_parts, id_of, lacks, news_of, parts, port_of, rest, second, third, three, two, u16_in, u32_in}
 use Rattle.chorus_show.proofs.LineBack.{entry_back, entry_line, first_part, lacks_join, lines_tell_entries, one_part}
-use Rattle.law_explore.specs.Outcome.{Answered, Fact, Held, Judged, Stale, plain_act, plain_answer}
+use Rattle.law_explore.specs.Outcome as facts
+use Rattle.law_explore.specs.Outcome.{Answered, Calls, Copied, Fact, Held, Judged, Members, Moving, Next, Open, Settled, Stale, plain_act, plain_answer}
 use Rattle.explore_report.specs.Facts.{fact_line, outcome_lines, plain_act_text, plain_answer_text, verdict_text}
-use Rattle.law_outcomes.specs.Facts.{IsPlain, TextsTellOutcomes}
+use Rattle.law_outcomes.specs.Facts.{IsPlain, IsSettling, IsTake, TextsTellOutcomes}
 
 -- Texts in which a byte stands.
 
@@ -421,72 +423,321 @@ fact_text (Answered k i act) = phrase (codes "answer") (decimal k ∷ decimal i 
 fact_text (Judged x verdict) = phrase (codes "verdict") (id_text x ∷ verdict_text verdict ∷ [])
 fact_text (Stale x) = phrase (codes "stale") (id_text x ∷ [])
 fact_text (Held q actor waiting) = phrase (codes "port") (name_text q ∷ name_text actor ∷ map id_text waiting)
+fact_text (Settled k i act settles) = phrase (codes "answer") (decimal k ∷ decimal i ∷ plain_act_text act ∷ act_text settles ∷ [])
+fact_text (Open x) = phrase (codes "open") (id_text x ∷ [])
+fact_text (Copied x q) = phrase (codes "copy") (id_text x ∷ name_text q ∷ [])
+fact_text (facts.Accepted q ids) = phrase (codes "accepted") (name_text q ∷ map id_text ids)
+fact_text (Moving q actor) = phrase (codes "moving") (name_text q ∷ name_text actor ∷ [])
+fact_text (Members g qs) = phrase (codes "members") (name_text g ∷ map name_text qs)
+fact_text (Calls k n) = phrase (codes "outstanding") (decimal k ∷ decimal n ∷ [])
+fact_text (facts.Holds k client n) = phrase (codes "hand") (decimal k ∷ decimal client ∷ decimal n ∷ [])
+fact_text (Next k i) = phrase (codes "next") (decimal k ∷ decimal i ∷ [])
 
 line-is : (f : Fact) → fact_line f ≡ fact_text f ++ 10 ∷ []
 line-is (Answered k i act) = refl
 line-is (Judged x verdict) = refl
 line-is (Stale x) = refl
 line-is (Held q actor waiting) = refl
+line-is (Settled k i act settles) = refl
+line-is (Open x) = refl
+line-is (Copied x q) = refl
+line-is (facts.Accepted q ids) = refl
+line-is (Moving q actor) = refl
+line-is (Members g qs) = refl
+line-is (Calls k n) = refl
+line-is (facts.Holds k client n) = refl
+line-is (Next k i) = refl
 
-ids-line : (xs : List MsgId) → AreIds xs → lacks 10 (spaced (map id_text xs)) ≡ true
-ids-line [] h = refl
-ids-line (x ∷ xs) h = lacks_join 10 (id_text x) (spaced (map id_text xs)) (id-lacks 10 line_end x h.0) (ids-line xs h.1)
+-- Words that a byte does not stand in.
+
+abbrev Lack : ℕ → List (List ℕ) → Type 0
+Lack c [] = Unit {0}
+Lack c (t ∷ ts) = (lacks c t ≡ true) × Lack c ts
+
+phrase-lacks : (w : List ℕ) (ts : List (List ℕ)) → lacks 10 w ≡ true → Lack 10 ts → lacks 10 (phrase w ts) ≡ true
+phrase-lacks w [] h l = ap (lacks 10) (append-nil w) ∙ h
+phrase-lacks w (t ∷ ts) h l = lacks_join 10 w (32 ∷ (t ++ spaced ts)) h (phrase-lacks t ts l.0 l.1)
+
+words : (w : List ℕ) (ts : List (List ℕ)) → lacks 32 w ≡ true → Lack 32 ts → parts 32 (phrase w ts) ≡ w ∷ ts
+words w [] h l = ap (parts 32) (append-nil w) ∙ one_part 32 w h
+words w (t ∷ ts) h l = first_part 32 w (t ++ spaced ts) h ∙ ap (λ ps. w ∷ ps) (words t ts l.0 l.1)
+
+ids-lack : (c : ℕ) → IsBetween c → (xs : List MsgId) → AreIds xs → Lack c (map id_text xs)
+ids-lack c is [] h = tt
+ids-lack c is (x ∷ xs) h = (id-lacks c is x h.0, ids-lack c is xs h.1)
+
+names-lack : (c : ℕ) → IsBetween c → (qs : List Ui) → AreNames qs → Lack c (map name_text qs)
+names-lack c is [] h = tt
+names-lack c is (q ∷ qs) h = (name-lacks c is q h.0, names-lack c is qs h.1)
+
+small : (c : ℕ) → IsBetween c → (n : ℕ) → n < 2 ^ 32 → lacks c (decimal n) ≡ true
+small c is n h = number-lacks c is n (omega (arith, h))
+
+settles-line : (a : Act) → IsSettling a → lacks 10 (act_text a) ≡ true
+settles-line (acts.Done n) h = act-line (acts.Done n) h
+settles-line (acts.Late n) h = act-line (acts.Late n) h
+settles-line a h = absurd h
+
+take-line : (a : Act) → IsTake a → lacks 10 (plain_act_text a) ≡ true
+take-line (acts.Take q position x) h = phrase-lacks (codes "take") (name_text q ∷ id_text x ∷ []) refl (name-lacks 10 line_end q h.0, (id-lacks 10 line_end x h.1, tt))
+take-line a h = absurd h
 
 one-line : (f : Fact) → IsPlain f → lacks 10 (fact_text f) ≡ true
-one-line (Answered k i act) h =
-    let m = h.0 in
-    let n = h.1 in
-    lacks_join 10 (codes "answer ") (decimal k ++ 32 ∷ (decimal i ++ 32 ∷ (plain_act_text act ++ []))) refl
-    (lacks_join 10 (decimal k) (32 ∷ (decimal i ++ 32 ∷ (plain_act_text act ++ []))) (number-lacks 10 line_end k (omega (arith, m)))
-    (lacks_join 10 (decimal i) (32 ∷ (plain_act_text act ++ [])) (number-lacks 10 line_end i (omega (arith, n))) (ap (lacks 10) (append-nil (plain_act_text act)) ∙ plain-line act h.2)))
-one-line (Judged x verdict) h =
-    lacks_join 10 (codes "verdict ") (id_text x ++ 32 ∷ (verdict_text verdict ++ [])) refl
-    (lacks_join 10 (id_text x) (32 ∷ (verdict_text verdict ++ [])) (id-lacks 10 line_end x h.0) (ap (lacks 10) (append-nil (verdict_text verdict)) ∙ verdict-line verdict h.1))
-one-line (Stale x) h = lacks_join 10 (codes "stale ") (id_text x ++ []) refl (ap (lacks 10) (append-nil (id_text x)) ∙ id-lacks 10 line_end x h)
-one-line (Held q actor waiting) h =
-    lacks_join 10 (codes "port ") (name_text q ++ 32 ∷ (name_text actor ++ spaced (map id_text waiting))) refl
-    (lacks_join 10 (name_text q) (32 ∷ (name_text actor ++ spaced (map id_text waiting))) (name-lacks 10 line_end q h.0)
-    (lacks_join 10 (name_text actor) (spaced (map id_text waiting)) (name-lacks 10 line_end actor h.1) (ids-line waiting h.2)))
+one-line (Answered k i act) h = phrase-lacks (codes "answer") (decimal k ∷ decimal i ∷ plain_act_text act ∷ []) refl (small 10 line_end k h.0, (small 10 line_end i h.1, (plain-line act h.2, tt)))
+one-line (Judged x verdict) h = phrase-lacks (codes "verdict") (id_text x ∷ verdict_text verdict ∷ []) refl (id-lacks 10 line_end x h.0, (verdict-line verdict h.1, tt))
+one-line (Stale x) h = phrase-lacks (codes "stale") (id_text x ∷ []) refl (id-lacks 10 line_end x h, tt)
+one-line (Held q actor waiting) h = phrase-lacks (codes "port") (name_text q ∷ name_text actor ∷ map id_text waiting) refl (name-lacks 10 line_end q h.0, (name-lacks 10 line_end actor h.1, ids-lack 10 line_end waiting h.2))
+one-line (Settled k i act settles) h =
+    phrase-lacks (codes "answer") (decimal k ∷ decimal i ∷ plain_act_text act ∷ act_text settles ∷ []) refl
+    (small 10 line_end k h.0, (small 10 line_end i h.1, (take-line act h.2, (settles-line settles h.3, tt))))
+one-line (Open x) h = phrase-lacks (codes "open") (id_text x ∷ []) refl (id-lacks 10 line_end x h, tt)
+one-line (Copied x q) h = phrase-lacks (codes "copy") (id_text x ∷ name_text q ∷ []) refl (id-lacks 10 line_end x h.0, (name-lacks 10 line_end q h.1, tt))
+one-line (facts.Accepted q ids) h = phrase-lacks (codes "accepted") (name_text q ∷ map id_text ids) refl (name-lacks 10 line_end q h.0, ids-lack 10 line_end ids h.1)
+one-line (Moving q actor) h = phrase-lacks (codes "moving") (name_text q ∷ name_text actor ∷ []) refl (name-lacks 10 line_end q h.0, (name-lacks 10 line_end actor h.1, tt))
+one-line (Members g qs) h = phrase-lacks (codes "members") (name_text g ∷ map name_text qs) refl (name-lacks 10 line_end g h.0, names-lack 10 line_end qs h.1)
+one-line (Calls k n) h = phrase-lacks (codes "outstanding") (decimal k ∷ decimal n ∷ []) refl (small 10 line_end k h.0, (small 10 line_end n h.1, tt))
+one-line (facts.Holds k client n) h = phrase-lacks (codes "hand") (decimal k ∷ decimal client ∷ decimal n ∷ []) refl (small 10 line_end k h.0, (small 10 line_end client h.1, (small 10 line_end n h.2, tt)))
+one-line (Next k i) h = phrase-lacks (codes "next") (decimal k ∷ decimal i ∷ []) refl (small 10 line_end k h.0, (small 10 line_end i h.1, tt))
+
+-- Facts but answers are read back from their words.
+
+abbrev with_first : {X : Type 0} → Option X → Option (List X) → Option (List X)
+with_first (Some x) (Some xs) = Some (x ∷ xs)
+with_first o p = None
+
+abbrev all_in : {X : Type 0} → (List ℕ → Option X) → List (List ℕ) → Option (List X)
+all_in read [] = Some []
+all_in read (t ∷ ts) = with_first (read t) (all_in read ts)
+
+abbrev fact_of : List ℕ → List (List ℕ) → Option Fact
+fact_of w ws =
+    if bytes_eq w (codes "verdict") then option_map (λ (p : MsgId × Option Answer). Judged p.0 p.1) (two (id_in (first ws)) (verdict_in (rest ws)))
+    else if bytes_eq w (codes "stale") then option_map Stale (id_in (first ws))
+    else if bytes_eq w (codes "port") then option_map (λ (p : Ui × Ui × List MsgId). Held p.0 p.1 p.2) (three (parse_name (first ws)) (parse_name (second ws)) (all_in id_in (rest (rest ws))))
+    else if bytes_eq w (codes "open") then option_map Open (id_in (first ws))
+    else if bytes_eq w (codes "copy") then option_map (λ (p : MsgId × Ui). Copied p.0 p.1) (two (id_in (first ws)) (parse_name (second ws)))
+    else if bytes_eq w (codes "accepted") then option_map (λ (p : Ui × List MsgId). facts.Accepted p.0 p.1) (two (parse_name (first ws)) (all_in id_in (rest ws)))
+    else if bytes_eq w (codes "moving") then option_map (λ (p : Ui × Ui). Moving p.0 p.1) (two (parse_name (first ws)) (parse_name (second ws)))
+    else if bytes_eq w (codes "members") then option_map (λ (p : Ui × List Ui). Members p.0 p.1) (two (parse_name (first ws)) (all_in parse_name (rest ws)))
+    else if bytes_eq w (codes "outstanding") then option_map (λ (p : ℕ × ℕ). Calls p.0 p.1) (two (parse_decimal (first ws)) (parse_decimal (second ws)))
+    else if bytes_eq w (codes "hand") then option_map (λ (p : ℕ × ℕ × ℕ). facts.Holds p.0 p.1 p.2) (three (parse_decimal (first ws)) (parse_decimal (second ws)) (parse_decimal (third ws)))
+    else if bytes_eq w (codes "next") then option_map (λ (p : ℕ × ℕ). Next p.0 p.1) (two (parse_decimal (first ws)) (parse_decimal (second ws)))
+    else None
+
+abbrev fact_in : List ℕ → Option Fact
+fact_in t = fact_of (first (parts 32 t)) (rest (parts 32 t))
+
+abbrev is_answer : Fact → Bool
+is_answer (Answered k i act) = true
+is_answer (Settled k i act settles) = true
+is_answer fact = false
+
+id-back : (x : MsgId) → IsId x → id_in (id_text x) ≡ Some x
+id-back x h = (told-back x answers.NoPort h tt).0
+
+ids-back : (xs : List MsgId) → AreIds xs → all_in id_in (map id_text xs) ≡ Some xs
+ids-back [] h = refl
+ids-back (x ∷ xs) h = ap₂ with_first (id-back x h.0) (ids-back xs h.1)
+
+names-back : (qs : List Ui) → AreNames qs → all_in parse_name (map name_text qs) ≡ Some qs
+names-back [] h = refl
+names-back (q ∷ qs) h = ap₂ with_first (parse_name-name_text q h.0) (names-back qs h.1)
+
+number-back : (n : ℕ) → n < 2 ^ 32 → parse_decimal (decimal n) ≡ Some n
+number-back n h = parse_decimal-decimal n (omega (arith, h))
+
+by-words : (w : List ℕ) (ts : List (List ℕ)) → lacks 32 w ≡ true → Lack 32 ts → fact_in (phrase w ts) ≡ fact_of w ts
+by-words w ts h l = ap (λ ps. fact_of (first ps) (rest ps)) (words w ts h l)
+
+fact-back : (f : Fact) → is_answer f ≡ false → IsPlain f → fact_in (fact_text f) ≡ Some f
+fact-back (Answered k i act) n h = absurd (false≢true (sym n))
+fact-back (Settled k i act settles) n h = absurd (false≢true (sym n))
+fact-back (Judged x v) n h =
+    ap (λ ps. fact_of (first ps) (rest ps)) (first_part 32 (codes "verdict") (id_text x ++ 32 ∷ (verdict_text v ++ [])) refl ∙ ap (λ ps. codes "verdict" ∷ ps) (first_part 32 (id_text x) (verdict_text v ++ []) (id-lacks 32 space x h.0) ∙ ap (λ t. id_text x ∷ parts 32 t) (append-nil (verdict_text v))))
+    ∙ ap₂ (λ a b. option_map (λ (p : MsgId × Option Answer). Judged p.0 p.1) (two a b)) (id-back x h.0) (verdict-back v h.1)
+fact-back (Stale x) n h = by-words (codes "stale") (id_text x ∷ []) refl (id-lacks 32 space x h, tt) ∙ ap (option_map Stale) (id-back x h)
+fact-back (Held q a xs) n h =
+    by-words (codes "port") (name_text q ∷ name_text a ∷ map id_text xs) refl (name-lacks 32 space q h.0, (name-lacks 32 space a h.1, ids-lack 32 space xs h.2))
+    ∙ (λ i. option_map (λ (p : Ui × Ui × List MsgId). Held p.0 p.1 p.2) (three (parse_name-name_text q h.0 i) (parse_name-name_text a h.1 i) (ids-back xs h.2 i)))
+fact-back (Open x) n h = by-words (codes "open") (id_text x ∷ []) refl (id-lacks 32 space x h, tt) ∙ ap (option_map Open) (id-back x h)
+fact-back (Copied x q) n h =
+    by-words (codes "copy") (id_text x ∷ name_text q ∷ []) refl (id-lacks 32 space x h.0, (name-lacks 32 space q h.1, tt))
+    ∙ ap₂ (λ a b. option_map (λ (p : MsgId × Ui). Copied p.0 p.1) (two a b)) (id-back x h.0) (parse_name-name_text q h.1)
+fact-back (facts.Accepted q xs) n h =
+    by-words (codes "accepted") (name_text q ∷ map id_text xs) refl (name-lacks 32 space q h.0, ids-lack 32 space xs h.1)
+    ∙ ap₂ (λ a b. option_map (λ (p : Ui × List MsgId). facts.Accepted p.0 p.1) (two a b)) (parse_name-name_text q h.0) (ids-back xs h.1)
+fact-back (Moving q a) n h =
+    by-words (codes "moving") (name_text q ∷ name_text a ∷ []) refl (name-lacks 32 space q h.0, (name-lacks 32 space a h.1, tt))
+    ∙ ap₂ (λ u v. option_map (λ (p : Ui × Ui). Moving p.0 p.1) (two u v)) (parse_name-name_text q h.0) (parse_name-name_text a h.1)
+fact-back (Members g qs) n h =
+    by-words (codes "members") (name_text g ∷ map name_text qs) refl (name-lacks 32 space g h.0, names-lack 32 space qs h.1)
+    ∙ ap₂ (λ a b. option_map (λ (p : Ui × List Ui). Members p.0 p.1) (two a b)) (parse_name-name_text g h.0) (names-back qs h.1)
+fact-back (Calls k m) n h =
+    by-words (codes "outstanding") (decimal k ∷ decimal m ∷ []) refl (small 32 space k h.0, (small 32 space m h.1, tt))
+    ∙ ap₂ (λ a b. option_map (λ (p : ℕ × ℕ). Calls p.0 p.1) (two a b)) (number-back k h.0) (number-back m h.1)
+fact-back (facts.Holds k client m) n h =
+    by-words (codes "hand") (decimal k ∷ decimal client ∷ decimal m ∷ []) refl (small 32 space k h.0, (small 32 space client h.1, (small 32 space m h.2, tt)))
+    ∙ (λ i. option_map (λ (p : ℕ × ℕ × ℕ). facts.Holds p.0 p.1 p.2) (three (number-back k h.0 i) (number-back client h.1 i) (number-back m h.2 i)))
+fact-back (Next k i) n h =
+    by-words (codes "next") (decimal k ∷ decimal i ∷ []) refl (small 32 space k h.0, (small 32 space i h.1, tt))
+    ∙ ap₂ (λ a b. option_map (λ (p : ℕ × ℕ). Next p.0 p.1) (two a b)) (number-back k h.0) (number-back i h.1)
+
+-- Answers: the rest of the line is the act, or a Take and what it settled.
+
+abbrev answered : ℕ → ℕ → Act → Option Act → Fact
+answered k i a None = Answered k i a
+answered k i a (Some s) = Settled k i a s
+
+abbrev behind : Act → Option Act → List ℕ
+behind a None = plain_act_text a ++ []
+behind a (Some s) = plain_act_text a ++ 32 ∷ (act_text s ++ [])
+
+abbrev Is : Act → Option Act → Type 0
+Is a None = IsAct a × (plain_act a ≡ a)
+Is a (Some s) = IsTake a × IsSettling s
+
+record View (f : Fact) : Type 0 where
+  pub script : ℕ
+  pub number : ℕ
+  pub act : Act
+  pub settles : Option Act
+  pub is : f ≡ answered script number act settles
+  pub text : fact_text f ≡ codes "answer" ++ 32 ∷ (decimal script ++ 32 ∷ (decimal number ++ 32 ∷ behind act settles))
+  pub script_is : script < 2 ^ 32
+  pub number_is : number < 2 ^ 32
+  pub acts_are : Is act settles
+
+view : (f : Fact) → is_answer f ≡ true → IsPlain f → View f
+view (Answered k i a) n h = record { script = k; number = i; act = a; settles = None; is = refl; text = refl; script_is = h.0; number_is = h.1; acts_are = (h.2, h.3) }
+view (Settled k i a s) n h = record { script = k; number = i; act = a; settles = Some s; is = refl; text = refl; script_is = h.0; number_is = h.1; acts_are = (h.2, h.3) }
+view (Judged x v) n h = absurd (false≢true n)
+view (Stale x) n h = absurd (false≢true n)
+view (Held q a xs) n h = absurd (false≢true n)
+view (Open x) n h = absurd (false≢true n)
+view (Copied x q) n h = absurd (false≢true n)
+view (facts.Accepted q xs) n h = absurd (false≢true n)
+view (Moving q a) n h = absurd (false≢true n)
+view (Members g qs) n h = absurd (false≢true n)
+view (Calls k m) n h = absurd (false≢true n)
+view (facts.Holds k client m) n h = absurd (false≢true n)
+view (Next k i) n h = absurd (false≢true n)
+
+answers-none : (f : Fact) → View f → fact_in (fact_text f) ≡ None
+answers-none f v =
+    ap fact_in v.text
+    ∙ ap (λ ps. fact_of (first ps) (rest ps)) (first_part 32 (codes "answer") (decimal v.script ++ 32 ∷ (decimal v.number ++ 32 ∷ behind v.act v.settles)) refl)
 
 end-same : (t u : List ℕ) → t ++ [] ≡ u ++ [] → t ≡ u
 end-same t u e = sym (append-nil t) ∙ e ∙ append-nil u
 
-text-tells : (f g : Fact) → IsPlain f → IsPlain g → fact_text f ≡ fact_text g → f ≡ g
-text-tells (Answered k i a) (Answered m j b) h l e =
-    let p = h.0 in
-    let r = h.1 in
-    let s = l.0 in
-    let t = l.1 in
-    let first = cut 32 (decimal k) (decimal m) (decimal i ++ 32 ∷ (plain_act_text a ++ [])) (decimal j ++ 32 ∷ (plain_act_text b ++ [])) (number-lacks 32 space k (omega (arith, p))) (number-lacks 32 space m (omega (arith, s))) (ap (drop 7) e) in
-    let next = cut 32 (decimal i) (decimal j) (plain_act_text a ++ []) (plain_act_text b ++ []) (number-lacks 32 space i (omega (arith, r))) (number-lacks 32 space j (omega (arith, t))) first.1 in
-    let act = some-same a b (sym (plain-back a h.2 h.3) ∙ ap (λ x. plain_in (parts 32 x)) (end-same (plain_act_text a) (plain_act_text b) next.1) ∙ plain-back b l.2 l.3) in
-    (λ z. Answered (number-tells k m (omega (arith, p)) (omega (arith, s)) first.0 z) (number-tells i j (omega (arith, r)) (omega (arith, t)) next.0 z) (act z))
-text-tells (Judged x v) (Judged y w) h l e =
-    let first = cut 32 (id_text x) (id_text y) (verdict_text v ++ []) (verdict_text w ++ []) (id-lacks 32 space x h.0) (id-lacks 32 space y l.0) (ap (drop 8) e) in
-    let verdict = some-same v w (sym (verdict-back v h.1) ∙ ap (λ t. verdict_in (parts 32 t)) (end-same (verdict_text v) (verdict_text w) first.1) ∙ verdict-back w l.1) in
-    ap₂ Judged (id-tells x y h.0 l.0 first.0) verdict
-text-tells (Stale x) (Stale y) h l e = ap Stale (id-tells x y h l (end-same (id_text x) (id_text y) (ap (drop 6) e)))
-text-tells (Held q a xs) (Held r b ys) h l e =
-    let first = cut 32 (name_text q) (name_text r) (name_text a ++ spaced (map id_text xs)) (name_text b ++ spaced (map id_text ys)) (name-lacks 32 space q h.0) (name-lacks 32 space r l.0) (ap (drop 5) e) in
-    let next = word-then (name_text a) (name_text b) (map id_text xs) (map id_text ys) (name-lacks 32 space a h.1) (name-lacks 32 space b l.1) first.1 in
-    let rest : acts.Delete q xs ≡ acts.Delete r ys = act-tells (acts.Delete q xs) (acts.Delete r ys) (h.0, h.2) (l.0, l.2) (ap₂ (λ t u. codes "delete " ++ (t ++ u)) first.0 next.1) in
-    let port : q ≡ r = cc in
-    let waiting : xs ≡ ys = cc in
-    (λ z. Held (port z) (name-tells a b h.1 l.1 next.0 z) (waiting z))
-text-tells (Answered k i a) (Judged y w) h l e = absurd (unlike 97 118 _ _ (omega arith) e)
-text-tells (Answered k i a) (Stale y) h l e = absurd (unlike 97 115 _ _ (omega arith) e)
-text-tells (Answered k i a) (Held r b ys) h l e = absurd (unlike 97 112 _ _ (omega arith) e)
-text-tells (Judged x v) (Answered m j b) h l e = absurd (unlike 97 118 _ _ (omega arith) (sym e))
-text-tells (Judged x v) (Stale y) h l e = absurd (unlike 115 118 _ _ (omega arith) (sym e))
-text-tells (Judged x v) (Held r b ys) h l e = absurd (unlike 112 118 _ _ (omega arith) (sym e))
-text-tells (Stale x) (Answered m j b) h l e = absurd (unlike 97 115 _ _ (omega arith) (sym e))
-text-tells (Stale x) (Judged y w) h l e = absurd (unlike 115 118 _ _ (omega arith) e)
-text-tells (Stale x) (Held r b ys) h l e = absurd (unlike 112 115 _ _ (omega arith) (sym e))
-text-tells (Held q a xs) (Answered m j b) h l e = absurd (unlike 97 112 _ _ (omega arith) (sym e))
-text-tells (Held q a xs) (Judged y w) h l e = absurd (unlike 112 118 _ _ (omega arith) e)
-text-tells (Held q a xs) (Stale y) h l e = absurd (unlike 112 115 _ _ (omega arith) e)
+no-more : (t r : List ℕ) → t ++ [] ≡ t ++ 32 ∷ r → ⊥
+no-more [] r e = absurd (cc)
+no-more (b ∷ t) r e = no-more t r (let tail : t ++ [] ≡ t ++ 32 ∷ r = cc in tail)
 
--- Outcomes.
+take-text : (q : Ui) (n : ℕ) (x : MsgId) (r : List ℕ) → plain_act_text (acts.Take q n x) ++ 32 ∷ r ≡ codes "take" ++ 32 ∷ (name_text q ++ 32 ∷ (id_text x ++ 32 ∷ r))
+take-text q n x r =
+    ap (λ z. codes "take" ++ 32 ∷ z)
+    (append_assoc (name_text q) (32 ∷ (id_text x ++ [])) (32 ∷ r) ∙ ap (λ z. name_text q ++ 32 ∷ z) (append_assoc (id_text x) [] (32 ∷ r)))
+
+settling-act : (s : Act) → IsSettling s → IsAct s
+settling-act (acts.Done n) h = h
+settling-act (acts.Late n) h = h
+settling-act s h = absurd h
+
+no-id : (w : List ℕ) → parts 58 w ≡ w ∷ [] → id_in w ≡ None
+no-id w h =
+    ap id_in_parts h
+    ∙ ap (λ o. option_map id_of (three (u32_in w) (below (2 ^ 32) o) (below (2 ^ 16) (parse_decimal [])))) parse-none
+    ∙ by (u32_in w)
+  where
+    by : (o : Option ℕ) → option_map id_of (three o None (below (2 ^ 16) (parse_decimal []))) ≡ None
+    by None = refl
+    by (Some n) = refl
+
+-- the word behind the id of what was taken is none of an entry of a Take
+taken-none : (t u w : List ℕ) (ws : List (List ℕ)) → id_in w ≡ None → act_in (codes "take" ∷ t ∷ u ∷ w ∷ ws) ≡ None
+unfolding act_of decision_of news_of port_of
+taken-none t u w ws h =
+    ap (λ o. option_map (λ (p : Ui × ℕ × MsgId). acts.Take p.0 p.1 p.2) (three (parse_name t) (parse_decimal u) o)) h
+    ∙ ap (option_map (λ (p : Ui × ℕ × MsgId). acts.Take p.0 p.1 p.2)) (none-three (parse_name t) (parse_decimal u))
+
+-- so what was taken is read in front of it
+taken-by : (q : Ui) (n : ℕ) (x : MsgId) (w : List ℕ) (m : ℕ) → IsName q → IsId x → m < 2 ^ 32 → lacks 32 w ≡ true → parts 58 w ≡ w ∷ []
+    → plain_in (parts 32 (plain_act_text (acts.Take q n x) ++ 32 ∷ (phrase w (decimal m ∷ []) ++ []))) ≡ Some (acts.Take q 0 x)
+taken-by q n x w m h k l lacks_it one =
+    let t = name_text q in
+    let u = id_text x in
+    ap plain_in
+    (ap (parts 32) (take-text q n x (phrase w (decimal m ∷ []) ++ []))
+    ∙ first_part 32 (codes "take") (t ++ 32 ∷ (u ++ 32 ∷ (phrase w (decimal m ∷ []) ++ []))) refl
+    ∙ ap (λ ps. codes "take" ∷ ps)
+    (first_part 32 t (u ++ 32 ∷ (phrase w (decimal m ∷ []) ++ [])) (name-lacks 32 space q h)
+    ∙ ap (λ ps. t ∷ ps)
+    (first_part 32 u (phrase w (decimal m ∷ []) ++ []) (id-lacks 32 space x k)
+    ∙ ap (λ ps. u ∷ ps) (ap (parts 32) (append-nil (phrase w (decimal m ∷ []))) ∙ words w (decimal m ∷ []) lacks_it (small 32 space m l, tt)))))
+    ∙ ap (λ o. or_else o (short_act (codes "take" ∷ t ∷ u ∷ w ∷ decimal m ∷ []))) (taken-none t u w (decimal m ∷ []) (no-id w one))
+    ∙ ap₂ (λ a b. option_map (λ (p : Ui × MsgId). acts.Take p.0 0 p.1) (two a b)) (parse_name-name_text q h) (id-back x k)
+
+taken-back : (a : Act) (s : Act) → IsTake a → IsSettling s → plain_in (parts 32 (behind a (Some s))) ≡ Some a
+taken-back (acts.Take q n x) s h l = by s l ∙ ap (λ (m : ℕ). Some (acts.Take q m x)) (sym h.2)
+  where
+    by : (s : Act) → IsSettling s → plain_in (parts 32 (behind (acts.Take q n x) (Some s))) ≡ Some (acts.Take q 0 x)
+    by (acts.Done m) l = taken-by q n x (codes "done") m h.0 h.1 l refl refl
+    by (acts.Late m) l = taken-by q n x (codes "late") m h.0 h.1 l refl refl
+    by s l = absurd l
+taken-back a s h l = absurd h
+
+alone-back : (a : Act) → IsAct a → plain_act a ≡ a → plain_in (parts 32 (behind a None)) ≡ Some a
+alone-back a h p = ap (λ t. plain_in (parts 32 t)) (append-nil (plain_act_text a)) ∙ plain-back a h p
+
+act-read : (a : Act) (o : Option Act) → Is a o → plain_in (parts 32 (behind a o)) ≡ Some a
+act-read a None h = alone-back a h.0 h.1
+act-read a (Some s) h = taken-back a s h.0 h.1
+
+-- and what is behind the same act is the same
+rest-tells : (a : Act) (o p : Option Act) → Is a o → Is a p → behind a o ≡ behind a p → o ≡ p
+rest-tells a None None h l e = refl
+rest-tells a None (Some s) h l e = absurd (no-more (plain_act_text a) (act_text s ++ []) e)
+rest-tells a (Some s) None h l e = absurd (no-more (plain_act_text a) (act_text s ++ []) (sym e))
+rest-tells a (Some s) (Some t) h l e =
+    let same : act_text s ++ [] ≡ act_text t ++ [] = behind-space (append_cancel_left (plain_act_text a) (32 ∷ (act_text s ++ [])) (32 ∷ (act_text t ++ [])) e) in
+    ap (λ (b : Act). Some b) (act-tells s t (settling-act s h.1) (settling-act t l.1) (end-same (act_text s) (act_text t) same))
+  where
+    behind-space : {us vs : List ℕ} → 32 ∷ us ≡ 32 ∷ vs → us ≡ vs
+    behind-space f = cc
+
+both-tell : (a b : Act) (o p : Option Act) → Is a o → Is b p → behind a o ≡ behind b p → (a ≡ b) × (o ≡ p)
+both-tell a b o p h l e =
+    let same : a ≡ b = some-same a b (sym (act-read a o h) ∙ ap (λ t. plain_in (parts 32 t)) e ∙ act-read b p l) in
+    (same, rest-tells a o p h (subst (λ (x : Act). Is x p) (sym same) l) (e ∙ ap (λ (x : Act). behind x p) (sym same)))
+
+answers-tell : (f g : Fact) → View f → View g → fact_text f ≡ fact_text g → f ≡ g
+answers-tell f g v w e =
+    let p = v.script_is in
+    let r = v.number_is in
+    let s = w.script_is in
+    let t = w.number_is in
+    let first = cut 32 (decimal v.script) (decimal w.script) (decimal v.number ++ 32 ∷ behind v.act v.settles) (decimal w.number ++ 32 ∷ behind w.act w.settles) (small 32 space v.script p) (small 32 space w.script s)
+    (ap (drop 7) (sym v.text ∙ e ∙ w.text)) in
+    let next = cut 32 (decimal v.number) (decimal w.number) (behind v.act v.settles) (behind w.act w.settles) (small 32 space v.number r) (small 32 space w.number t) first.1 in
+    let both = both-tell v.act w.act v.settles w.settles v.acts_are w.acts_are next.1 in
+    v.is
+    ∙ (λ z. answered (number-tells v.script w.script (omega (arith, p)) (omega (arith, s)) first.0 z) (number-tells v.number w.number (omega (arith, r)) (omega (arith, t)) next.0 z) (both.0 z) (both.1 z))
+    ∙ sym w.is
+
+text-tells : (f g : Fact) → IsPlain f → IsPlain g → fact_text f ≡ fact_text g → f ≡ g
+text-tells f g h l e = by (is_answer f) refl (is_answer g) refl
+  where
+    no-fact : (x : Fact) → None ≡ Some x → ⊥
+    no-fact x k = absurd (cc)
+
+    by : (b : Bool) → is_answer f ≡ b → (d : Bool) → is_answer g ≡ d → f ≡ g
+    by false p false q = some-same f g (sym (fact-back f p h) ∙ ap fact_in e ∙ fact-back g q l)
+    by true p false q = absurd (no-fact g (sym (answers-none f (view f p h)) ∙ ap fact_in e ∙ fact-back g q l))
+    by false p true q = absurd (no-fact f (sym (answers-none g (view g q l)) ∙ ap fact_in (sym e) ∙ fact-back f p h))
+    by true p true q = answers-tell f g (view f p h) (view g q l) e
+
+-- Lists of them.
 
 no-line : (t more : List ℕ) → [] ≡ (t ++ 10 ∷ []) ++ more → ⊥
 no-line [] more e = absurd (cc)

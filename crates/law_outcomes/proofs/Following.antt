@@ -25,8 +25,10 @@ use Rattle.law_explore.specs.Neighbours.{is_ready}
 use Rattle.law_explore.specs.Races.{are_linked, event_of, is_ready_by, next_of, own_by, position_after, replaying, seat_0}
 use Rattle.law_explore.specs.Replays.{events_of}
 use Rattle.law_explore.specs.Search.{IsHistory}
-use Rattle.law_explore.proofs.Alike.{keep_acts, owns-alike}
+use Rattle.law_explore.proofs.Alike.{keep_acts}
+use Rattle.law_explore.proofs.Settling.{told-alike}
 use Rattle.law_explore.proofs.Nets.{begins, command-alike, some-too}
+use Rattle.law_moments.specs.Answers.{answer_by, answered_by}
 use Rattle.law_replay.specs.Shown.{race_of}
 use Rattle.chorus_scene.specs.Scene.{Scene, Script}
 use Rattle.chorus_explore.specs.Stages.{position}
@@ -35,7 +37,6 @@ use Rattle.chorus_explore.proofs.Racing.{base, caller-at, first-at, race-layout}
 use Rattle.law_outcomes.specs.Anybody.{IsOfRace}
 use Rattle.law_outcomes.proofs.Anybody.{delivers-alike, sees-alike}
 use Rattle.law_outcomes.proofs.Counting.{served-one}
-use Rattle.law_outcomes.proofs.Owning.{answer_by, answered_by}
 
 split-same : {X : Type 0} (xs ys us vs : List X) → xs ++ ys ≡ us ++ vs → length xs ≡ length us → ys ≡ vs
 split-same [] ys [] vs e n = e
@@ -176,7 +177,7 @@ module _ (c : Scene) (old : List Event) where
       by None None a = refl
       by None (Some v) a = absurd a
       by (Some w) None a = absurd a
-      by (Some w) (Some v) a = ap (λ x. Some x) (sym (owns-alike ActAlike keep_acts d (turn_for d w n) (turn_for d v m) (begins ActAlike keep_acts (length c.scripts) n m h k d low high w v a)))
+      by (Some w) (Some v) a = ap (λ x. Some x) (sym (told-alike ActAlike keep_acts d (turn_for d w n) (turn_for d v m) (begins ActAlike keep_acts (length c.scripts) n m h k d low high w v a)))
 
   acted : (i : ℕ) (d : Command) (fs : List Event) → Gives (Act (suc i) d ∷ fs) → Follows fs → (o : Option Script) → slice_get c.scripts i ≡ o → Follows (Act (suc i) d ∷ fs)
   acted i d fs gives w None there = absurd (let e = sym (own-given i d fs) ∙ gives.none i there in cc)

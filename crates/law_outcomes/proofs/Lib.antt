@@ -1,8 +1,8 @@
-mod Owning
 mod Told
 mod Silent
 mod Counting
-mod Held
+mod Leaving
+mod Asking
 mod Reading
 pub mod Replaying
 mod Texts

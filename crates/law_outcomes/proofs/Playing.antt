@@ -21,17 +21,20 @@ use Rattle.law_explore.specs.Races.{are_linked, is_ready_by, may_come, next_of, 
 use Rattle.law_explore.specs.Search.{IsHistory}
 use Rattle.law_explore.proofs.Exploring.{lists-next}
 use Rattle.law_explore.proofs.Searching.{here}
+use Rattle.law_explore.proofs.Moments.{nets-tell-the-same}
 use Rattle.law_explore.proofs.Telling.{acts-tell, outcomes}
+use Rattle.law_explore.specs.Positions.{AskAlike}
+use Rattle.law_moments.specs.Answers.{answered_by}
 use Rattle.law_replay.specs.Shown.{race_of}
 use Rattle.chorus_scene.specs.Scene.{Scene, Script}
 use Rattle.chorus_report.specs.Setup.{setup_commands}
 use Rattle.chorus_explore.specs.Stages.{position}
 use Rattle.chorus_explore.proofs.Happening.{events, left-none, left-of}
 use Rattle.law_outcomes.specs.Anybody.{ArePlayed, PlaysAreHistories}
+use Rattle.law_outcomes.proofs.Asking.{nets-ask, same-acts}
 use Rattle.law_outcomes.proofs.Beginning.{all-of, come-gives, commands-append, none-given, race-gives, start}
 use Rattle.law_outcomes.proofs.Following.{Follows, Gives, follows}
-use Rattle.law_outcomes.proofs.Owning.{answered_by}
-use Rattle.law_outcomes.proofs.Reading.{reads}
+use Rattle.law_outcomes.proofs.Reading.{reads, script-count}
 
 -- Where all commands were given and no packet is left, nothing may come.
 
@@ -125,5 +128,8 @@ plays-are-histories c es closed shape keeps p left =
       moves = w.moves;
       whole = (w.history, none-next c w.moves w.history empty gave);
       reads = reads c es shape p.may w.moves closed w.history left (λ i. w.told i ∙ ap (answered_by c.layout (suc i)) (sym p.is)) (w.served ∙ ap (λ xs. length (worked_off c.layout xs)) (sym p.is))
-          (outcomes ActAlike acts-tell told n.places m.places nets.places);
+          (outcomes ActAlike acts-tell told n.places m.places nets.places)
+          (nets-tell-the-same (race_of c).scripts (position c w.moves).left told n m
+          (subst (λ (count : ℕ). NetsAlike (AskAlike true) count n m) (sym (script-count c)) (nets-ask (length c.scripts) n m nets)))
+          (same-acts n.places m.places nets.places);
     }

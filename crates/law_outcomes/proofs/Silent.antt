@@ -13,6 +13,7 @@ use Rattle.law_network.specs.Network.{NetState, Event, Act, schedule}
 use Rattle.law_network.proofs.Merge.Parts.{All-reverse}
 use Rattle.law_explore.specs.declared.moves.Move.{Move}
 use Rattle.law_explore.specs.Races.{own_by}
+use Rattle.law_moments.specs.Answers.{answer_by, answered_by}
 use Rattle.law_replay.specs.Shown.{race_of}
 use Rattle.chorus_scene.specs.Scene.{Scene, Script}
 use Rattle.chorus_report.specs.Setup.{setup_commands}
@@ -20,7 +21,6 @@ use Rattle.chorus_replay.specs.Order.{entering, in_setup}
 use Rattle.chorus_explore.specs.Stages.{position}
 use Rattle.chorus_explore.proofs.Happening.{events}
 use Rattle.chorus_explore.proofs.Racing.{base}
-use Rattle.law_outcomes.proofs.Owning.{answer_by, answered_by}
 use Rattle.law_outcomes.proofs.Told.{answered-at}
 
 -- Before the race seats with scripts gave no command.

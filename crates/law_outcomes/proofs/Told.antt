@@ -1,20 +1,19 @@
 -- What the commands of a race were answered, kept beside its network, is what its events say.
 -- r is a race, l a layout, base are the events where it begins, ms are moves, both with the latest first; i is the place of a script.
-use Rattle.std.proofs.Common.{ℕ, zero, suc, ◌≡◌, ◌≢◌, ◌+◌, ◌==◌, Bool, true, false, cond, List, [], ◌∷◌, ◌++◌, length, map, option_to_list, unwrap_or, Option, Some, None, slice_get, slice_set, refl, sym, ◌∙◌, ap, arith}
+use Rattle.std.proofs.Common.{ℕ, zero, suc, ◌≡◌, ◌+◌, ◌==◌, Bool, true, false, cond, List, [], ◌∷◌, ◌++◌, length, map, option_to_list, unwrap_or, Option, Some, None, slice_get, slice_set, refl, sym, ◌∙◌, ap, arith}
 use Rattle.std.specs.Option.{option_map}
 use Rattle.std.proofs.lemmas.Bool.{eqb-true, eq-eqb, false≢true}
 use Rattle.std.proofs.lemmas.Option.{slice_get-map}
 use Rattle.chorus_ui.specs.declared.layout.Layout.{Layout}
-use Rattle.chorus_entry.specs.declared.act.Act as acts
 use Rattle.chorus_entry.specs.declared.command.Command.{Command}
 use Rattle.law_network.specs.Network.{NetState, Event, Act, Deliver, after, happened, numbers, schedule}
 use Rattle.law_explore.specs.declared.moves.Move.{Move}
 use Rattle.law_explore.specs.declared.moves.Move.TheVariants.{Go, Carry}
-use Rattle.law_explore.specs.Races.{Race, Position, are_linked, next_of, own_by, position_after, replaying, with_answer}
+use Rattle.law_explore.specs.Races.{Race, Position, Told, are_linked, next_of, own_by, position_after, replaying, with_answer}
 use Rattle.law_explore.specs.Replays.{events_of}
 use Rattle.law_explore.specs.Search.{state_after}
 use Rattle.law_explore.proofs.Showing.{net-after}
-use Rattle.law_outcomes.proofs.Owning.{answered_by}
+use Rattle.law_moments.specs.Answers.{answered_by}
 
 -- Lists.
 
@@ -67,7 +66,7 @@ module _ (r : Race) (l : Layout) (base : List Event) (start : r.net ≡ schedule
   Answered ms i = slice_get (state_after (replaying r) ms).told i ≡ option_map (λ (cs : List Command). answered_by l (suc i) (events ms)) (slice_get r.scripts i)
 
   -- a script is told one answer more, where its caller is there
-  more : (a : Option acts.Act) (o : Option (List acts.Act)) (told : List acts.Act) → o ≡ Some told → with_answer a o ≡ option_to_list a ++ told
+  more : (a : Option Told) (o : Option (List Told)) (told : List Told) → o ≡ Some told → with_answer a o ≡ option_to_list a ++ told
   more None o told e = ap (λ x. unwrap_or x []) e
   more (Some a) o told e = ap (λ x. a ∷ unwrap_or x []) e
 
@@ -89,7 +88,7 @@ module _ (r : Race) (l : Layout) (base : List Event) (start : r.net ≡ schedule
         let was : slice_get s.told i ≡ Some told = ih ∙ ap (option_map (λ (cs : List Command). answered_by l (suc i) (events ms))) e in
         ap (λ (k : ℕ). slice_get (slice_set s.told k (with_answer a (slice_get s.told k))) i) same
         ∙ set-same s.told i told (with_answer a (slice_get s.told i)) was
-        ∙ ap (λ (xs : List acts.Act). Some xs) (more a (slice_get s.told i) told was)
+        ∙ ap (λ (xs : List Told). Some xs) (more a (slice_get s.told i) told was)
 
     went : (j : ℕ) (o : Option Command) → next_of (slice_get s.left j) ≡ o
         → slice_get (position_after (option_map (λ (d : Command). Act (suc j) d) o) (Go j) s).told i
@@ -109,6 +108,6 @@ module _ (r : Race) (l : Layout) (base : List Event) (start : r.net ≡ schedule
     where
       by : (o : Option (List Command)) → slice_get r.scripts i ≡ o → option_map (λ (cs : List Command). []) o ≡ option_map (λ (cs : List Command). answered_by l (suc i) base) o
       by None e = refl
-      by (Some script) e = ap (λ (xs : List acts.Act). Some xs) (sym (none i script e))
+      by (Some script) e = ap (λ (xs : List Told). Some xs) (sym (none i script e))
   answered-at none (Go j ∷ ms) i = went ms i (answered-at none ms i) j (next_of (slice_get (state_after (replaying r) ms).left j)) refl
   answered-at none (Carry a b ∷ ms) i = carried ms i (answered-at none ms i) a b (are_linked r.net.layout a b)

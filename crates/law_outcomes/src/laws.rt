@@ -6,8 +6,8 @@ ghost use Rattle.law_outcomes.specs.Facts.{TextsTellOutcomes};
 ghost use Rattle.law_outcomes.specs.Replays.{ChecksAreOfReplays, OutcomesAreOfReplays, ReplaysAreAmongOutcomes, ReplaysAreHistories, TextsAreAmongOutcomes, WholesAreAmongOutcomes};
 ghost use Rattle.law_outcomes.specs.Texts.{AllIsUncut};
 
-/// Whoever closes the network that a history comes to, the lines that a reader finds in the merged journal are those that the history
-/// comes to, and the commands that were answered and the packets that were worked off are as many as its moves.
+/// Whoever closes the network where a history leads, the lines that a reader finds in the merged journal are those of the outcome and of all
+/// that is so there, and the commands that were answered and the packets that were worked off are as many as its moves.
 pub fn closed_tells_outcome()
     ensures { ClosedTellsOutcome }
 {}
@@ -33,8 +33,9 @@ pub fn replays_are_among_outcomes()
 
 /// What is said of the claims of a check is so of the lines that a reader finds in replays.
 ///
-/// What holds is met in every replay; what is open, in every replay of fewer moves than the bound; and what fails is not met in the
-/// replay of the schedule that is shown.
+/// What holds is met in every replay; what is open, as far as fewer moves lead than the bound; and what fails is not met in the replay of
+/// the schedule that is shown. Where a claim is asked at each moment, so it is on the way of the history that the replay comes to, and the
+/// replay of the schedule that is shown goes on from where the claim is not met.
 pub fn checks_are_of_replays()
     ensures { ChecksAreOfReplays }
 {}
@@ -50,8 +51,8 @@ pub fn plays_are_histories()
     ensures { PlaysAreHistories }
 {}
 
-/// Two outcomes that differ have two texts: the lines of its facts tell each outcome whose numbers are within their types and that has
-/// none of those that only tell when.
+/// Two lists of facts that differ have two texts, and so have two outcomes and two moments: the lines tell each fact whose numbers are within
+/// their types and that has none of those that only tell when.
 pub fn texts_tell_outcomes()
     ensures { TextsTellOutcomes }
 {}

@@ -40,8 +40,7 @@ use Rattle.chorus_run.proofs.Playing.{are-actors}
 use Rattle.law_outcomes.specs.Closed.{IsOfWhole}
 use Rattle.law_outcomes.specs.Anybody.{ArePlayed}
 use Rattle.law_outcomes.proofs.Playing.{plays-are-histories}
-use Rattle.law_outcomes.proofs.Replaying.{wholes-are-among-outcomes}
-use Rattle.chorus_claims.specs.Pieces.{meets}
+use Rattle.law_outcomes.proofs.Replaying.{met, wholes-are-among-outcomes}
 use Rattle.law_runs.specs.Runs.{IsRun, RunTextsAreAmongOutcomes, RunsAreAmongOutcomes, RunsAreHistories, RunsMeetClaims}
 use Rattle.law_runs.proofs.Turns.{IsPlacedAt, Split, given-by, placed-all, race-events, setup-events, split, split-events}
 
@@ -206,11 +205,11 @@ runs-are-among-outcomes c most text closed shape keeps told run all =
 
 pub runs-meet-claims : RunsMeetClaims
 runs-meet-claims c k closed shape keeps holds run =
-    let w = runs-are-histories c closed shape keeps run in ap (meets k) w.reads.lines ∙ holds w.moves w.whole
+    met c k shape keeps (λ n. Unit {0}) (λ ms asked may. holds ms asked) closed (runs-are-histories c closed shape keeps run)
 
 -- a schedule in the text is no part of it
 unscheduled : (c : Scene) (steps : List Step) (closed : Closed) → IsOfWhole (record c { schedule = steps }) closed → IsOfWhole c closed
-unscheduled c steps closed w = record { moves = w.moves; whole = w.whole; reads = record { lines = w.reads.lines; moves = w.reads.moves } }
+unscheduled c steps closed w = record { moves = w.moves; whole = w.whole; reads = record { lines = w.reads.lines; facts = w.reads.facts; acts = w.reads.acts; moves = w.reads.moves } }
 
 pub run-texts-are-among-outcomes : RunTextsAreAmongOutcomes
 run-texts-are-among-outcomes n most input other old new status closed told run same unworn rest all =

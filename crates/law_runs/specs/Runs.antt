@@ -4,7 +4,7 @@
 use Rattle.std.specs.Prelude.{ℕ, ◌≡◌, true, List, [], Option, Some, None}
 use Rattle.std.specs.List.{Contains}
 use Rattle.chorus_ui.specs.Layout.{IsLayout}
-use Rattle.chorus_claims.specs.Pieces.{Claim, meets}
+use Rattle.chorus_claims.specs.Pieces.{Claim}
 use Rattle.chorus_turn.specs.declared.knowledge.Knowledge.{Knowledge}
 use Rattle.law_closing.specs.Places.{PlaceNote}
 use Rattle.chorus_scene.specs.Limits.{Keeps}
@@ -22,7 +22,7 @@ use Rattle.chorus_explore.specs.Checked.{Holds, Judged}
 use Rattle.chorus_explore.specs.Ends.{Tells}
 use Rattle.chorus_explore.specs.Explored.{IsExploration}
 use Rattle.law_outcomes.specs.Closed.{IsOfWhole, moves_read, outcome_of_closed}
-use Rattle.law_outcomes.specs.Replays.{AllAreFound, texts_in}
+use Rattle.law_outcomes.specs.Replays.{AllAreFound, IsSeenMet, texts_in}
 
 -- All commands of the scenario were performed on a nucleus, whichever threads gave them and worked packets off, and it
 -- was closed with no packet left; known is what the pass knew that closed it.
@@ -44,11 +44,12 @@ RunsAreAmongOutcomes =
     (told : IsExploration c most text) → IsRun c closed → AllAreFound told.explored (moves_read c closed) →
     Contains (texts_in told.explored) (outcome_of_closed c closed)
 
--- And a claim that holds is met by every run.
+-- And a claim that holds is met by every run: at its end, and, where it is asked at each moment, at each on the way of a
+-- history that comes to the same.
 abbrev pub RunsMeetClaims : Type 0
 RunsMeetClaims =
     (c : Scene) (k : Claim) (closed : Closed) → IsLayout c.layout → Keeps c → Judged c k Holds → IsRun c closed →
-    meets k (outcome_of_closed c closed) ≡ true
+    IsSeenMet c k (λ (n : ℕ). Unit {0}) closed
 
 -- From bytes to bytes: where `explore` is done with one text, and `run` with one that says the same but for its schedule.
 abbrev pub RunTextsAreAmongOutcomes : Type 0
