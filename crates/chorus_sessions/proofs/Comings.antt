@@ -21,7 +21,7 @@ use Rattle.chorus_sessions.specs.declared.hand.Hand.{Hand}
 use Rattle.chorus_sessions.specs.declared.session.Session.{Session}
 use Rattle.chorus_sessions.specs.Hands.{hands_out, HandNothingOut, AreKept, IsKept}
 use Rattle.chorus_sessions.specs.Sessions.{AreSessions, Draws, Goes, HasAllBack, HaveRun, IsKeeper, IsSession}
-use Rattle.chorus_sessions.proofs.Holding.{holds-none, holds-later}
+use Rattle.chorus_sessions.proofs.Holding.{are-delivered-later, are-delivered-none, holds-none, holds-later}
 
 abbrev MadeQuiet : Placed PlaceNote → Type 0
 MadeQuiet m = hands_out m.remarked.entry.act ≡ false
@@ -36,14 +36,15 @@ keeper-started l n a h = record {
   quiet = subst HandNothingOut (sym (ap (λ (v : Knowledge PlaceNote). v.mine) h.knows)) (All-nil MadeQuiet);
 }
 
-pub session-new : (n : Nucleus) (actor : Ui) (a b : Pass) (p : Session) → Enters n actor a b p.pass → (known p.pass).seat ≡ p.hand.seat → p.hand.taken.items ≡ [] → IsSession n p
-session-new n actor a b p new seat none = record {
+pub session-new : (n : Nucleus) (actor : Ui) (a b : Pass) (p : Session) → Enters n actor a b p.pass → (known p.pass).seat ≡ p.hand.seat → p.hand.taken.items ≡ [] → p.hand.delivered.items ≡ [] → IsSession n p
+session-new n actor a b p new seat none sent = record {
   pass = new.pass;
   notes = ap (λ (v : Knowledge PlaceNote). v.notes) new.knows;
   keeper = ap (λ (v : Knowledge PlaceNote). v.keeper) new.knows;
   seat = seat;
   holds = holds-none (layout_of n) (known p.pass) (known p.pass).mine (caller_of p.pass).last p.hand.taken.items
       (subst HandNothingOut (sym (ap (λ (v : Knowledge PlaceNote). v.mine) new.knows)) (All-nil MadeQuiet)) none;
+  delivered = are-delivered-none (layout_of n) (known p.pass) (known p.pass).mine p.hand.delivered.items sent;
 }
 
 pub sessions-none : (n : Nucleus) (ps : List Session) → ps ≡ [] → AreSessions n ps
@@ -151,6 +152,7 @@ one-later l v u note hand sees k = record {
   seat_is = k.seat_is;
   last = k.last;
   holds = holds-later l v u note.mine note.mine [] k.last k.last hand.taken.items sees (omega arith) (sym (append-nil note.mine)) (All-nil MadeQuiet) k.holds;
+  delivered = are-delivered-later l v u note.mine note.mine [] hand.delivered.items sees (sym (append-nil note.mine)) k.delivered;
 }
 
 kept-later : (l : Layout) (v u : Knowledge PlaceNote) (notes : List (Note PlaceNote)) (hands : List Hand) → SeesMore v u → AreKept l v notes hands → AreKept l u notes hands
@@ -163,7 +165,7 @@ pub kept-more : (n : Nucleus) (p : Session) (a b : Pass) (hands : List Hand) →
 kept-more n p a b hands r is all =
     let l = layout_of n in
     let notes = ap (λ (v : Knowledge PlaceNote). v.notes) r.knows ∙ ap (λ ks. (known a).notes ++ note_of (known p.pass) ∷ ks) is.notes in
-    let own : IsKept l (known p.pass) (note_of (known p.pass)) p.hand = record { seat_is = is.seat; last = (caller_of p.pass).last; holds = is.holds } in
+    let own : IsKept l (known p.pass) (note_of (known p.pass)) p.hand = record { seat_is = is.seat; last = (caller_of p.pass).last; holds = is.holds; delivered = is.delivered } in
     subst (λ ks. AreKept l (known b) ks (hands ++ p.hand ∷ [])) (sym notes)
     (kept-push l (known b) (known a).notes hands (note_of (known p.pass)) p.hand (kept-later l (known a) (known b) (known a).notes hands (λ k. (r.sees k).0) all)
     (one-later l (known p.pass) (known b) (note_of (known p.pass)) p.hand (λ k. (r.sees k).1) own))
@@ -188,5 +190,17 @@ kept-none l k a hands h none = subst (AreKept l (known a) (known a).notes) (sym 
 
 pub all-back : (k : ℕ) (a : Pass) → IsKeeper k k a → HasAllBack a
 all-back k a h = let made = h.drawn_is in let ended = h.ended_is in record { keeper = h.keeper; ended = omega (arith, made, ended); quiet = h.quiet }
+
+-- so it is when more packets were moved
+pub back-goes : (n : Nucleus) (a b : Pass) → Goes n a b → HasAllBack a → HasAllBack b
+back-goes n a b g h = record {
+  keeper = g.same.2 ∙ h.keeper;
+  ended = g.same.3 ∙ h.ended ∙ ap (λ (notes : List (Note PlaceNote)). length notes + 1) (sym g.same.1);
+  quiet = subst HandNothingOut (sym g.mine) (All-append MadeQuiet (known a).mine g.more h.quiet g.quiet);
+}
+
+pub kept-goes : (n : Nucleus) (a b : Pass) (hands : List Hand) → Goes n a b → AreKept (layout_of n) (known a) (known a).notes hands → AreKept (layout_of n) (known b) (known b).notes hands
+kept-goes n a b hands g all =
+    subst (λ (ks : List (Note PlaceNote)). AreKept (layout_of n) (known b) ks hands) (sym g.same.1) (kept-later (layout_of n) (known a) (known b) (known a).notes hands g.sees all)
 
 pub ruleset comings = (session-new, sessions-none, keeper-started, keeper-drew, keeper-same, keeper-goes, all-back)

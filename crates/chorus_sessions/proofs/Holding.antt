@@ -4,11 +4,13 @@ use Rattle.std.proofs.Common.{ℕ, ◌≡◌, ◌<◌, ◌≤◌, ◌+◌, ◌==
 use Rattle.std.specs.List.{All}
 use Rattle.std.proofs.lemmas.Bool.{cases_lt, false≢true}
 use Rattle.std.proofs.lemmas.Bool.Decides.{nat_tests}
-use Rattle.std.proofs.lemmas.List.{length-append}
+use Rattle.std.proofs.lemmas.List.{length-append, map-append}
+use Rattle.std.proofs.lemmas.List.Elements.{All-nil, All-weaker}
 use Rattle.chorus_ui.specs.declared.ui.Ui.{Ui}
 use Rattle.chorus_ui.specs.declared.layout.Layout.{Layout}
 use Rattle.chorus_entry.specs.declared.entry.Entry.{Entry}
 use Rattle.chorus_entry.specs.declared.act.Act.{Act}
+use Rattle.chorus_entry.specs.declared.answer.Answer.{Answer}
 use Rattle.chorus_entry.specs.declared.id.MsgId.{MsgId}
 use Rattle.chorus_entry.specs.declared.command.Command.{Command}
 use Rattle.chorus_entry.specs.declared.message.Message.{Message}
@@ -23,7 +25,8 @@ use Rattle.law_closing.specs.Places.{PlaceNote}
 use Rattle.chorus_turn.specs.declared.knowledge.Placed.{Placed}
 use Rattle.chorus_turn.specs.declared.knowledge.Knowledge.{Knowledge}
 use Rattle.chorus_turn.specs.declared.knowledge.Remarked.{Remarked}
-use Rattle.chorus_turn.specs.Journals.{with_place}
+use Rattle.chorus_turn.specs.Journals.{entries_of, with_place}
+use Rattle.chorus_turn.specs.Knowing.{seen_at}
 use Rattle.chorus_turn.specs.Lists.{StartsWith}
 use Rattle.chorus_nucleus.specs.declared.nucleus.Nucleus.{Nucleus}
 use Rattle.chorus_nucleus.specs.declared.pass.Pass.{Pass}
@@ -33,16 +36,16 @@ use Rattle.chorus_nucleus.specs.Taking.{SeesMore}
 use Rattle.chorus_nucleus.proofs.Trying.{origin-later}
 use Rattle.chorus_nucleus.proofs.TakeTurns.{origin, sees}
 use Rattle.chorus_sessions.specs.declared.hand.PortMessage.{PortMessage}
-use Rattle.chorus_sessions.specs.Hands.{entries_made, hands_out, HandNothingOut, IsInHand, IsHandedOutBy, Holds}
+use Rattle.chorus_sessions.specs.Hands.{entries_made, hands_out, AreDelivered, HandNothingOut, HasHeard, IsDelivered, IsInHand, IsHandedOutBy, Holds}
 use Rattle.chorus_sessions.proofs.Lists.{In, in-either, in-map-back, all-in, get-low, get-some, get-front, get-longer, get-seam}
 use Rattle.chorus_sessions.proofs.Received.{in-so, stands-so}
 use Rattle.chorus_sessions.proofs.Quiet.{Quiet, IsQuiet, settled-quiet, quiet-by-acts, quiet-placed}
 
-entries-append : (xs ys : List (Placed PlaceNote)) → entries_made (xs ++ ys) ≡ entries_made xs ++ entries_made ys
+pub entries-append : (xs ys : List (Placed PlaceNote)) → entries_made (xs ++ ys) ≡ entries_made xs ++ entries_made ys
 entries-append [] ys = refl
 entries-append (x ∷ xs) ys = ap (λ zs. x.remarked.entry ∷ zs) (entries-append xs ys)
 
-stands-later : (e : Entry) (xs ys : List Entry) → StandsIn e xs → StandsIn e (xs ++ ys)
+pub stands-later : (e : Entry) (xs ys : List Entry) → StandsIn e xs → StandsIn e (xs ++ ys)
 stands-later e xs ys s = record {
   newer = s.newer;
   older = s.older ++ ys;
@@ -169,7 +172,7 @@ module _ (l : Layout) (v u : Knowledge PlaceNote) (mine : List (Placed PlaceNote
 
 -- A take.
 
-stands-new : (p k : ℕ) (seen : List (List (Remarked PlaceNote))) (r : PlaceNote) (e : Entry) (es : List Entry) (xs ys : List (Placed PlaceNote)) → ys ≡ xs ++ with_place p seen (numbered k r (e ∷ es)) → StandsIn e (entries_made ys)
+pub stands-new : (p k : ℕ) (seen : List (List (Remarked PlaceNote))) (r : PlaceNote) (e : Entry) (es : List Entry) (xs ys : List (Placed PlaceNote)) → ys ≡ xs ++ with_place p seen (numbered k r (e ∷ es)) → StandsIn e (entries_made ys)
 stands-new p k seen r e es xs ys is = record {
   newer = entries_made xs;
   older = entries_made (with_place p seen (numbered (k + 1) r es));
@@ -206,3 +209,32 @@ holds-taken n q a b pos m settled taken h holds =
       settled = settled;
       origin = origin (layout_of n) p q r (known a) (known b) (caller_of a) (caller_of b) h.turn;
     }
+
+-- What was delivered.
+
+heard-later : (l : Layout) (v u : Knowledge PlaceNote) (x : MsgId) (answer : Answer) → SeesMore v u → HasHeard l v x answer → HasHeard l u x answer
+heard-later l v u x answer sees h =
+    let more = sees h.place in
+    let E = λ (r : Remarked PlaceNote). r.entry in
+    record {
+      place = h.place;
+      there = h.there;
+      entry = h.entry;
+      seen = subst (λ zs. StandsIn h.entry zs) (sym (ap entries_of more.1 ∙ map-append E (seen_at h.place v) more.0)) (stands-later h.entry (entries_of (seen_at h.place v)) (entries_of more.0) h.seen);
+      tells = h.tells;
+    }
+
+delivered-later : (l : Layout) (v u : Knowledge PlaceNote) (xs ys more : List (Placed PlaceNote)) (sent : PortMessage) → SeesMore v u → ys ≡ xs ++ more → IsDelivered l v xs sent → IsDelivered l u ys sent
+delivered-later l v u xs ys more sent sees grown h = record {
+  entry = h.entry;
+  stands = subst (λ zs. StandsIn h.entry zs) (sym (ap entries_made grown ∙ entries-append xs more)) (stands-later h.entry (entries_made xs) (entries_made more) h.stands);
+  posts = h.posts;
+  heard = heard-later l v u sent.message.id (Answer.Accepted sent.position) sees h.heard;
+}
+
+pub are-delivered-later : (l : Layout) (v u : Knowledge PlaceNote) (xs ys more : List (Placed PlaceNote)) (sent : List PortMessage) → SeesMore v u → ys ≡ xs ++ more → AreDelivered l v xs sent → AreDelivered l u ys sent
+are-delivered-later l v u xs ys more sent sees grown h =
+    All-weaker (IsDelivered l v xs) (IsDelivered l u ys) (λ d k. delivered-later l v u xs ys more d sees grown k) sent h
+
+pub are-delivered-none : (l : Layout) (v : Knowledge PlaceNote) (mine : List (Placed PlaceNote)) (sent : List PortMessage) → sent ≡ [] → AreDelivered l v mine sent
+are-delivered-none l v mine sent none = subst (λ ds. AreDelivered l v mine ds) (sym none) (All-nil (IsDelivered l v mine))

@@ -8,4 +8,10 @@ pub mod Holding
 pub mod Steps
 pub mod Comings
 pub mod Seats
+pub mod Delivering
+pub mod Told
+pub mod Delivered
 pub mod Standing
+pub mod Kept
+pub mod Playing
+pub mod Emptied

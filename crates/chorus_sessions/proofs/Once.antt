@@ -16,7 +16,7 @@ take-drop zero xs = refl
 take-drop (suc k) [] = refl
 take-drop (suc k) (x ∷ xs) = ap (λ ys. x ∷ ys) (take-drop k xs)
 
-take-get : (k : ℕ) (xs : List MsgId) (i : ℕ) (x : MsgId) → slice_get (take k xs) i ≡ Some x → slice_get xs i ≡ Some x
+pub take-get : (k : ℕ) (xs : List MsgId) (i : ℕ) (x : MsgId) → slice_get (take k xs) i ≡ Some x → slice_get xs i ≡ Some x
 take-get zero xs i x h = absurd (cc)
 take-get (suc k) [] i x h = absurd (cc)
 take-get (suc k) (y ∷ xs) zero x h = h

@@ -90,7 +90,7 @@ ends-with q x n e past act =
 
 -- Where it stands.
 
-found : (q : Ui) (x : MsgId) (n : ℕ) (f : Entry) (past : List Entry) → In f past → f.act ≡ Act.Take q n x → (k : ℕ) × (slice_get (received (on q past)) k ≡ Some x)
+pub found : (q : Ui) (x : MsgId) (n : ℕ) (f : Entry) (past : List Entry) → In f past → f.act ≡ Act.Take q n x → (k : ℕ) × (slice_get (received (on q past)) k ≡ Some x)
 found q x n f [] a act = absurd a
 found q x n f (e ∷ past) (inl is) act =
     (length (received (on q past)), ap (λ xs. slice_get xs (length (received (on q past)))) (ends-with q x n e past (ap (λ (z : Entry). z.act) is ∙ act)) ∙ get-seam (received (on q past)) x)

@@ -1,18 +1,20 @@
 -- What is in hand when all is closed: each message of it was handed out, by an entry of the run, and each that was handed out is there.
 -- n is a nucleus, pass the one that closed it, c what was closed, q a port, js are journals.
-use Rattle.std.proofs.Common.{ℕ, zero, suc, ◌≡◌, ◌<◌, ◌+◌, ◌-◌, ◌==◌, inl, inr, true, false, List, [], ◌∷◌, map, length, reverse, Some, slice_get, slice_index_or, refl, sym, ◌∙◌, ap, subst, arith}
+use Rattle.std.proofs.Common.{ℕ, zero, suc, ◌≡◌, ◌<◌, ◌+◌, ◌-◌, ◌==◌, nat_le, inl, inr, true, false, List, [], ◌∷◌, ◌++◌, map, length, reverse, Some, slice_get, slice_index_or, refl, sym, ◌∙◌, ap, subst, arith}
 use Rattle.std.specs.List.{All, filter}
-use Rattle.std.proofs.lemmas.Bool.{cases_order, false≢true}
+use Rattle.std.proofs.lemmas.Bool.{and_parts, cases_order, false≢true, leb-true}
 use Rattle.std.proofs.lemmas.Bool.Decides.{nat_tests}
-use Rattle.std.proofs.lemmas.List.{length-map, reverse-reverse}
+use Rattle.std.proofs.lemmas.List.{length-map, map-append, reverse-reverse}
 use Rattle.std.proofs.lemmas.List.Elements.{All-nil, All-cons, All-head, All-tail, All-weaker, All-contains}
 use Rattle.chorus_ui.specs.declared.ui.Ui.{Ui}
 use Rattle.chorus_ui.specs.declared.layout.Layout.{Layout}
-use Rattle.chorus_ui.specs.Layout.{places}
+use Rattle.chorus_ui.specs.Layout.{has_place, places}
 use Rattle.chorus_entry.specs.declared.entry.Entry.{Entry}
 use Rattle.chorus_entry.specs.declared.id.MsgId.{MsgId}
 use Rattle.chorus_entry.specs.declared.act.Act.{Act}
+use Rattle.chorus_entry.specs.declared.answer.Answer.{Answer}
 use Rattle.chorus_world.specs.AcceptedLaws.{accepted_by}
+use Rattle.chorus_world.proofs.Sorted.Holders.{run_is_legal}
 use Rattle.chorus_merge.specs.Merge.{merged}
 use Rattle.chorus_merge.specs.Laws.{Numbered}
 use Rattle.chorus_merge.proofs.Numbering.{keeps_journals}
@@ -30,7 +32,7 @@ use Rattle.chorus_turn.specs.declared.knowledge.Placed.{Placed}
 use Rattle.chorus_turn.specs.declared.knowledge.Note.{Note}
 use Rattle.chorus_turn.specs.declared.knowledge.Knowledge.{Knowledge}
 use Rattle.chorus_turn.specs.Journals.{by_seat, at_place, entries_of}
-use Rattle.chorus_turn.specs.Knowing.{seats_of, Shows}
+use Rattle.chorus_turn.specs.Knowing.{seats_of, seen_at, Shows}
 use Rattle.chorus_net.specs.declared.closed.Closed.{Closed}
 use Rattle.chorus_net.specs.Closing.{IsLeft, closed_journals, past_of}
 use Rattle.chorus_nucleus.specs.declared.nucleus.Nucleus.{Nucleus}
@@ -42,14 +44,15 @@ use Rattle.chorus_nucleus.proofs.Running.{a-closed-nucleus-is-a-run}
 use Rattle.chorus_sessions.specs.declared.hand.Hand.{Hand}
 use Rattle.chorus_sessions.specs.declared.hand.PortMessage.{PortMessage}
 use Rattle.chorus_sessions.specs.Sessions.{HasAllBack, IsRunOf}
-use Rattle.chorus_sessions.specs.Hands.{hands_out, entries_made, AreHandedOut, AreKept, HandsOut, IsInSomeHand, IsKept}
+use Rattle.chorus_sessions.specs.Hands.{hands_out, entries_made, AreHandedOut, AreKept, IsDelivered, IsInSomeHand, IsKept, WereDelivered}
 use Rattle.chorus_nucleus.proofs.Posted.{messages-taken-were-posted}
 use Rattle.chorus_sessions.proofs.Ordered.{stands-before}
-use Rattle.chorus_sessions.proofs.Lists.{In, in-filter, in-filter-back, in-filter-holds, in-map, in-map-back, in-reverse, in-row, all-in, each-in, get-low, get-or, get-some}
+use Rattle.chorus_sessions.proofs.Lists.{In, get-in, in-front, in-filter, in-filter-back, in-filter-holds, in-map, in-map-back, in-reverse, in-row, all-in, each-in, get-low, get-or, get-some}
 use Rattle.chorus_sessions.proofs.Received.{in-so, stands-so, one-entry}
 use Rattle.chorus_sessions.proofs.Once.{received-once}
 use Rattle.chorus_sessions.proofs.Positions.{has-position}
 use Rattle.chorus_sessions.proofs.Seats.{one-index}
+use Rattle.chorus_sessions.proofs.Told.{accepted-there, told-became}
 
 count-numbers : (m p : ℕ) → length (numbers m p) ≡ m
 count-numbers zero p = refl
@@ -298,6 +301,35 @@ module _ (n : Nucleus) (pass : Pass) (c : Closed) (h : IsClosed n pass c) (is : 
     none_lost = λ e q m x stands act. lost-none hands all e q m x (in-so e (past_of c) stands) act;
   }
 
+  place-of : (p : ℕ) → has_place l p ≡ true → IsPlace (places l) p
+  place-of p there = (let two = and_parts (nat_le 1 p) (nat_le p (places l)) there in (leb-true 1 p two.0, leb-true p (places l) two.1))
+
+  -- what was delivered was accepted
+  pub were-delivered : (hands : List Hand) → AreKept l v v.notes hands → WereDelivered (past_of c) hands
+  were-delivered hands all a i hand sent here found =
+      let past = past_of c in
+      let k = kept-at v.notes hands all a hand here in
+      let d = all-in (IsDelivered l v k.0.mine) sent hand.delivered.items k.2.delivered (get-in hand.delivered.items i sent found) in
+      let m = in-map-back (λ (z : Placed PlaceNote). z.remarked.entry) d.entry k.0.mine (in-so d.entry (entries_made k.0.mine) d.stands) in
+      let both = made-stands k.0 m.0 k.1 m.2 in
+      let posted = stands-so d.entry past (subst (λ e. In e past) m.1 both.0) in
+      let heard = d.heard in
+      let place = place-of heard.place heard.there in
+      let begins = (shown heard.place place).begins in
+      let journal : entries_of (h.closes.log heard.place) ≡ entries_of (seen_at heard.place v) ++ entries_of begins.0 =
+      ap (λ (rs : List (Remarked PlaceNote)). entries_of rs) begins.1 ∙ map-append (λ (r : Remarked PlaceNote). r.entry) (seen_at heard.place v) begins.0 in
+      let seen = in-front heard.entry (entries_of (seen_at heard.place v)) (entries_of begins.0) (in-so heard.entry (entries_of (seen_at heard.place v)) heard.seen) in
+      let told = in-past heard.place heard.entry place (subst (λ es. In heard.entry es) (sym journal) seen) in
+      let legal = run_is_legal l (actor_among h.comers) past law.run in
+      record {
+        entry = d.entry;
+        stands = posted;
+        posts = d.posts;
+        seat_is = ap (λ (e : Entry). e.seat) (sym m.1) ∙ both.1 ∙ k.2.seat_is;
+        position = accepted-there l past h.shape legal sent.message.id sent.port sent.position sent.message d.entry posted d.posts refl
+            (told-became l past h.shape legal sent.message.id (Answer.Accepted sent.position) heard.entry (stands-so heard.entry past told) heard.tells);
+      }
+
 -- what was closed is a run
 pub run-of : (n : Nucleus) (l : Layout) (pass : Pass) (c : Closed) → layout_of n ≡ l → IsClosed n pass c → IsRunOf l c
 run-of n l pass c same h = subst (λ k. IsRunOf k c) same record {
@@ -306,4 +338,4 @@ run-of n l pass c same h = subst (λ k. IsRunOf k c) same record {
   is = a-closed-nucleus-is-a-run (layout_of n) (known pass) h.comers c h.shape h.closes;
 }
 
-pub ruleset standing = (are-handed-out, run-of)
+pub ruleset standing = (are-handed-out, were-delivered, run-of)

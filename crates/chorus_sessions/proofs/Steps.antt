@@ -1,6 +1,6 @@
 -- A pass goes on by one call more.
 -- n is a nucleus, a, b and c are a pass at three moments, p and p' a session before and after, q is a port.
-use Rattle.std.proofs.Common.{ℕ, ◌≡◌, ◌≤◌, true, false, List, [], ◌∷◌, ◌++◌, Option, Result, Ok, Err, inl, inr, refl, sym, ◌∙◌, ap, subst, arith, append_assoc}
+use Rattle.std.proofs.Common.{ℕ, ◌≡◌, ◌≤◌, true, false, List, [], ◌∷◌, ◌++◌, Result, Ok, Err, inl, inr, refl, sym, ◌∙◌, ap, subst, arith, append_assoc}
 use Rattle.std.specs.List.{All}
 use Rattle.std.proofs.lemmas.List.{append-nil}
 use Rattle.std.proofs.lemmas.List.Elements.{All-nil, All-cons, All-append}
@@ -9,8 +9,6 @@ use Rattle.chorus_entry.specs.declared.act.Act.{Act}
 use Rattle.chorus_entry.specs.declared.command.Command.{Command}
 use Rattle.chorus_entry.specs.declared.dest.Dest.{Dest}
 use Rattle.chorus_entry.specs.declared.id.MsgId.{MsgId}
-use Rattle.chorus_entry.specs.declared.message.Message.{Message}
-use Rattle.chorus_calls.specs.declared.client.Settle.{Settle}
 use Rattle.chorus_calls.specs.Callers.{Seated, raised}
 use Rattle.chorus_nucleus.specs.SiteTurns.Turning.{HasSeenMore}
 use Rattle.chorus_nucleus.proofs.Behind.{more-itself, more-up}
@@ -33,16 +31,16 @@ use Rattle.chorus_nucleus.specs.declared.fault.CallFault.TheVariants as faults
 use Rattle.chorus_nucleus.specs.declared.nucleus.Nucleus.{Nucleus}
 use Rattle.chorus_nucleus.specs.declared.pass.Pass.{Pass}
 use Rattle.chorus_nucleus.specs.Passes.{layout_of, known, caller_of, home_of, IsPassOf}
-use Rattle.chorus_nucleus.specs.Calls.{Performs, IsCall, Unserved, IsServe, IsOutcome, place_of}
+use Rattle.chorus_nucleus.specs.Calls.{IsCall, Unserved, IsServe, IsOutcome, place_of}
 use Rattle.chorus_nucleus.specs.Taking.{SeesMore}
 use Rattle.chorus_nucleus.proofs.Trying.{sees-then}
 use Rattle.chorus_nucleus.proofs.TakeTurns.{sees-turn, sees-same, sees-fault}
 use Rattle.chorus_sessions.specs.declared.session.Session.{Session}
 use Rattle.chorus_sessions.specs.declared.hand.PortMessage.{PortMessage}
-use Rattle.chorus_sessions.specs.Hands.{hands_out, Holds, HandNothingOut}
+use Rattle.chorus_sessions.specs.Hands.{hands_out, AreDelivered, Holds, HandNothingOut}
 use Rattle.chorus_sessions.specs.Sessions.{takes, Goes, IsSession, Takes}
 use Rattle.chorus_sessions.proofs.Quiet.{Quiet, IsQuiet, own-make, own-quiet, quiet-by-acts, quiet-command, quiet-packet, quiet-placed}
-use Rattle.chorus_sessions.proofs.Holding.{holds-later, holds-taken}
+use Rattle.chorus_sessions.proofs.Holding.{are-delivered-later, holds-later, holds-taken}
 
 abbrev MadeQuiet : Placed PlaceNote → Type 0
 MadeQuiet m = hands_out m.remarked.entry.act ≡ false
@@ -161,16 +159,25 @@ module _ (n : Nucleus) (q : Ui) (a b : Pass) where
 
 -- Sessions.
 
--- what is in the hand stays
-pub session-goes : (n : Nucleus) (p p' : Session) → IsSession n p → Goes n p.pass p'.pass → p'.hand.seat ≡ p.hand.seat → p'.hand.taken.items ≡ p.hand.taken.items → IsSession n p'
-session-goes n p p' is g seat taken = record {
+-- what is in the hand stays, but for what was delivered
+pub session-with : (n : Nucleus) (p p' : Session) → IsSession n p → Goes n p.pass p'.pass → p'.hand.seat ≡ p.hand.seat → p'.hand.taken.items ≡ p.hand.taken.items
+    → AreDelivered (layout_of n) (known p'.pass) (known p'.pass).mine p'.hand.delivered.items → IsSession n p'
+session-with n p p' is g seat taken delivered = record {
   pass = g.pass;
   notes = g.same.1 ∙ is.notes;
   keeper = g.same.2 ∙ is.keeper;
   seat = g.same.0 ∙ is.seat ∙ sym seat;
   holds = subst (λ (js : List PortMessage). Holds (layout_of n) (known p'.pass) (known p'.pass).mine (caller_of p'.pass).last js) (sym taken)
       (holds-later (layout_of n) (known p.pass) (known p'.pass) (known p.pass).mine (known p'.pass).mine g.more (caller_of p.pass).last (caller_of p'.pass).last p.hand.taken.items g.sees g.last g.mine g.quiet is.holds);
+  delivered = delivered;
 }
+
+-- all of it stays
+pub session-goes : (n : Nucleus) (p p' : Session) → IsSession n p → Goes n p.pass p'.pass → p'.hand.seat ≡ p.hand.seat → p'.hand.taken.items ≡ p.hand.taken.items → p'.hand.delivered.items ≡ p.hand.delivered.items → IsSession n p'
+session-goes n p p' is g seat taken delivered =
+    session-with n p p' is g seat taken
+    (subst (λ (js : List PortMessage). AreDelivered (layout_of n) (known p'.pass) (known p'.pass).mine js) (sym delivered)
+    (are-delivered-later (layout_of n) (known p.pass) (known p'.pass) (known p.pass).mine (known p'.pass).mine g.more p.hand.delivered.items g.sees g.mine is.delivered))
 
 -- a message more is in the hand
 pub session-took : (n : Nucleus) (q : Ui) (p p' : Session) → IsSession n p → Takes n q p p' → p'.hand.seat ≡ p.hand.seat → IsSession n p'
@@ -186,6 +193,9 @@ session-took n q p p' is takes seat =
       seat = h.standing.0 ∙ is.seat ∙ sym seat;
       holds = subst (λ (js : List PortMessage). Holds (layout_of n) (known p'.pass) (known p'.pass).mine (caller_of p'.pass).last js) (sym takes.taken)
           (holds-taken n got.port p.pass p'.pass got.position got.message settled p.hand.taken.items h is.holds);
+      delivered = subst (λ (js : List PortMessage). AreDelivered (layout_of n) (known p'.pass) (known p'.pass).mine js) (sym takes.delivered)
+          (are-delivered-later (layout_of n) (known p.pass) (known p'.pass) (known p.pass).mine (known p'.pass).mine _ p.hand.delivered.items
+          (sees-turn (place_of n (Command.Take got.port) p.pass) h.turn.turn.found _ (known p.pass) (known p'.pass) h.turn.turn.knows h.turn.turn.shows.begins) (ap (λ (z : Knowledge PlaceNote). z.mine) h.turn.turn.knows) is.delivered);
     }
 
 pub ruleset calls = (goes-not, goes-make, goes-send, goes-serve, goes-outcome)

@@ -21,27 +21,35 @@ use Rattle.chorus_nucleus.specs.Calls.{IsCall}
 use Rattle.chorus_nucleus.specs.Taking.{SeesMore}
 use Rattle.chorus_nucleus.specs.Runs.{IsARun}
 use Rattle.chorus_sessions.specs.declared.calls.Asked.{Asked}
-use Rattle.chorus_sessions.specs.declared.calls.Asked.TheVariants as Asked
 use Rattle.chorus_sessions.specs.declared.fault.SessionsFault.{SessionsFault}
+use Rattle.chorus_sessions.specs.declared.hand.Hand.{Hand}
 use Rattle.chorus_sessions.specs.declared.hand.PortMessage.{PortMessage}
 use Rattle.chorus_sessions.specs.declared.session.Session.{Session}
-use Rattle.chorus_sessions.specs.Hands.{Holds, HandNothingOut}
+use Rattle.chorus_sessions.specs.Hands.{AreDelivered, Holds, HandNothingOut}
 
 abbrev pub pass_of : Session → Pass
 pass_of s = s.pass
+
+abbrev pub hand_of : Session → Hand
+hand_of s = s.hand
 
 -- what it was handed out, in order
 abbrev pub taken_by : Session → List PortMessage
 taken_by s = s.hand.taken.items
 
+-- what it delivered, in order
+abbrev pub delivered_by : Session → List PortMessage
+delivered_by s = s.hand.delivered.items
+
 -- The session's pass is one of the nucleus; it draws no numbers, and no pass ended in it. What it has in hand is what
--- entries of its pass handed out, all of it.
+-- entries of its pass handed out, all of it; and what it delivered its pass posted, and heard that it was accepted.
 pub record IsSession (n : Nucleus) (s : Session) : Type 0 where
   pub pass : IsPassOf n s.pass
   pub notes : (known s.pass).notes ≡ []
   pub keeper : (known s.pass).keeper ≡ false
   pub seat : (known s.pass).seat ≡ s.hand.seat
   pub holds : Holds (layout_of n) (known s.pass) (known s.pass).mine (caller_of s.pass).last s.hand.taken.items
+  pub delivered : AreDelivered (layout_of n) (known s.pass) (known s.pass).mine s.hand.delivered.items
 
 pub record AreSessions (n : Nucleus) (ss : List Session) : Type 0 where
   pub each : (i : ℕ) (d : Session) → i < length ss → IsSession n (slice_index_or ss i d)
@@ -73,17 +81,22 @@ pub record Takes (n : Nucleus) (q : Ui) (a b : Session) : Type 0 where
   pub port : got.port ≡ q
   pub call : IsCall n (Command.Take q) (pass_of a) (pass_of b) (Ok (Reply.Taken got.position got.message settled))
   pub taken : taken_by b ≡ taken_by a ++ got ∷ []
+  pub delivered : delivered_by b ≡ delivered_by a
 
--- a take of the port was answered by this, and what was in hand is so still
+-- what it has in hand is so still
+abbrev pub KeepsHand : Session → Session → Type 0
+KeepsHand a b = (taken_by b ≡ taken_by a) × (delivered_by b ≡ delivered_by a)
+
+-- a take of the port was answered by this, and handed nothing out
 abbrev pub TakesNone : Nucleus → Ui → Result Reply CallFault → Session → Session → Type 0
-TakesNone n q r a b = IsCall n (Command.Take q) (pass_of a) (pass_of b) r × (taken_by b ≡ taken_by a)
+TakesNone n q r a b = IsCall n (Command.Take q) (pass_of a) (pass_of b) r × KeepsHand a b
 
 -- there was no room for one message more: nothing was asked
 pub record HasNoRoom (f : CallFault) (a b : Session) : Type 0 where
   pub none : AllocError
   pub is : f ≡ CallFault.Memory none
   pub pass : pass_of b ≡ pass_of a
-  pub taken : taken_by b ≡ taken_by a
+  pub keeps : KeepsHand a b
 
 -- The session asked the port for a message, by one take, and tells what that was answered.
 abbrev pub Asks : Nucleus → Ui → Result Asked CallFault → Session → Session → Type 0

@@ -8,7 +8,7 @@ ghost use Rattle.chorus_entry.specs.declared.dest.Dest.TheVariants as Dest;
 ghost use Rattle.chorus_entry.specs.declared.command.Command.TheVariants as Command;
 ghost use Rattle.chorus_nucleus.specs.Passes.{caller_of};
 ghost use Rattle.chorus_nucleus.specs.Calls.{IsCall, IsOutcome};
-ghost use Rattle.chorus_sessions.specs.Sessions.{pass_of, taken_by, takes, Asks, IsSession, TakesOne};
+ghost use Rattle.chorus_sessions.specs.Sessions.{hand_of, pass_of, takes, Asks, IsSession, TakesOne};
 
 use crate::hand::PortMessage;
 use crate::session::Session;
@@ -40,7 +40,7 @@ impl Session {
         requires no_take { takes command.now ≡ false }
         ensures session { IsSession nucleus.now self.new }
         ensures call { IsCall nucleus.now command.now (pass_of self.old) (pass_of self.new) result }
-        ensures kept { taken_by self.new ≡ taken_by self.old }
+        ensures kept { hand_of self.new ≡ hand_of self.old }
     {
         nucleus.act(&mut self.pass, command)
     }
@@ -56,7 +56,7 @@ impl Session {
         ensures session { IsSession nucleus.now self.new }
         ensures call { IsCall nucleus.now (Command.Send (Dest.Port port) body.now)
             (pass_of self.old) (pass_of self.new) result }
-        ensures kept { taken_by self.new ≡ taken_by self.old }
+        ensures kept { hand_of self.new ≡ hand_of self.old }
     {
         nucleus.send(&mut self.pass, Dest::Port(port), body)
     }
@@ -67,7 +67,7 @@ impl Session {
         requires { IsSession nucleus.now self.old }
         ensures session { IsSession nucleus.now self.new }
         ensures call { IsOutcome nucleus.now id (pass_of self.old) (pass_of self.new) result }
-        ensures kept { taken_by self.new ≡ taken_by self.old }
+        ensures kept { hand_of self.new ≡ hand_of self.old }
     {
         nucleus.outcome(&mut self.pass, id)
     }
@@ -81,7 +81,7 @@ impl Session {
         ensures session { IsSession nucleus.now self.new }
         ensures call { IsCall nucleus.now (Command.Move port actor)
             (pass_of self.old) (pass_of self.new) result }
-        ensures kept { taken_by self.new ≡ taken_by self.old }
+        ensures kept { hand_of self.new ≡ hand_of self.old }
     {
         nucleus.move_port(&mut self.pass, port, actor)
     }

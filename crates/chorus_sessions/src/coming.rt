@@ -1,10 +1,12 @@
 //! Sessions come and go.
 
-ghost use Rattle.std.specs.Prelude.{◌≡◌, ◌≤◌, true, [], length, IfOk};
+ghost use Rattle.std.specs.Prelude.{◌≡◌, ◌≤◌, true, [], length, map, reverse, IfOk};
 ghost use Rattle.std.specs.Vec.{vec_capacity};
 ghost use Rattle.chorus_nucleus.specs.Passes.{known, layout_of, IsPassOf};
 ghost use Rattle.chorus_sessions.specs.Hands.{AreKept};
-ghost use Rattle.chorus_sessions.specs.Sessions.{AreSessions, Draws, HasAllBack, IsKeeper, IsSession};
+ghost use Rattle.chorus_nucleus.specs.Calls.{gave};
+ghost use Rattle.chorus_sessions.specs.Playing.{left_by, HaveCome, IsNewSession};
+ghost use Rattle.chorus_sessions.specs.Sessions.{hand_of, AreSessions, Draws, HasAllBack, IsKeeper, IsSession};
 
 use crate::behaviour::Behaviour;
 use crate::fault::SessionsFault;
@@ -26,6 +28,8 @@ fn enter_one(
     requires keeper { (known pass.old).keeper ≡ true }
     ensures pass { IsPassOf nucleus.now pass.new }
     ensures session { IfOk result (λ session. IsSession nucleus.now session) }
+    ensures new { IfOk result (λ session. IsNewSession nucleus.now actor (known pass.old).made
+        session) }
     ensures drawn { Draws result pass.old pass.new }
 {
     if !actor.is_actor() {
@@ -36,10 +40,12 @@ fn enter_one(
     };
     let seat = own.seat();
     Ok(Session {
+        alloc,
         pass: own,
         hand: Hand {
             seat,
             taken: Vec::new(alloc),
+            delivered: Vec::new(alloc),
         },
     })
 }
@@ -60,6 +66,9 @@ pub(crate) fn enter_all<B: Behaviour>(
     ensures keeper { IsKeeper (length sessions.new.items) 0 pass.new }
     ensures sessions { AreSessions nucleus.now sessions.new.items }
     ensures few { length sessions.new.items ≤ length behaviours.now }
+    ensures gave { gave (known pass.new) ≡ gave (known pass.old) }
+    ensures came { result ≡ true →
+        HaveCome B.in_actor nucleus.now 1 behaviours.now sessions.new.items }
 {
     for index in 0..behaviours.len() {
         let Ok(session) = enter_one(alloc, nucleus, pass, behaviours[index].actor()) else {
@@ -86,9 +95,16 @@ pub(crate) fn retire_all(
     ensures back { HasAllBack pass.new }
     ensures kept { AreKept (layout_of nucleus.now) (known pass.new) (known pass.new).notes
         hands.new.items }
+    ensures gave { gave (known pass.new) ≡ gave (known pass.old) }
+    ensures hands { hands.new.items ≡ map hand_of (reverse sessions.items) }
+    ensures notes { (known pass.new).notes ≡ map left_by (reverse sessions.items) }
 {
     while let Some(session) = sessions.pop() {
-        let Session { pass: own, hand } = session;
+        let Session {
+            pass: own,
+            hand,
+            ..
+        } = session;
         nucleus.retire(own, pass);
         hands.push_reserved(hand);
     }

@@ -3,7 +3,7 @@
 use std::alloc::AllocError;
 use thiserror::Error;
 
-/// Why sessions were not run. No behaviour was asked to do anything then, or memory was wanting to move the last packets or to close.
+/// Why sessions were not run. No behaviour was asked to do anything then, or memory was wanting to close.
 #[derive(Clone, Copy, Debug, PartialEq, Eq, Error)]
 pub enum SessionsFault {
     /// There is no memory.

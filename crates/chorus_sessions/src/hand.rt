@@ -1,9 +1,9 @@
-//! What a session was handed out.
+//! What a session has in hand.
 
 use chorus_entry::Message;
 use chorus_ui::Ui;
 
-/// A message that a port handed out.
+/// A message of a port: it was accepted there, or handed out.
 #[derive(Debug, Drop)]
 pub struct PortMessage {
     /// The port.
@@ -14,11 +14,13 @@ pub struct PortMessage {
     pub message: Message,
 }
 
-/// What a session was handed out.
+/// What a session was handed out, and what it delivered.
 #[derive(Drop)]
 pub struct Hand {
     /// The session's seat: its number, from 1, in the order in which they came.
     pub seat: u32,
-    /// The messages, in the order in which they were handed out to it.
+    /// The messages that it was handed out, in their order.
     pub taken: Vec<PortMessage>,
+    /// The messages of which [`Session::deliver`](crate::Session::deliver) told it that they were accepted, in its order.
+    pub delivered: Vec<PortMessage>,
 }

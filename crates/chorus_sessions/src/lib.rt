@@ -24,6 +24,6 @@ pub use calls::Asked;
 pub use fault::SessionsFault;
 pub use hand::{Hand, PortMessage};
 pub use pumping::Pumped;
-pub use running::{Finished, run_sessions};
+pub use running::{Ending, Finished, run_sessions};
 pub use session::Session;
 pub use setup::NewPort;

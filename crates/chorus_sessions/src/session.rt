@@ -2,14 +2,16 @@
 
 ghost use Rattle.std.specs.Prelude.{◌≡◌};
 ghost use Rattle.chorus_nucleus.specs.Passes.{caller_of};
-ghost use Rattle.chorus_sessions.specs.Sessions.{pass_of, taken_by};
+ghost use Rattle.chorus_sessions.specs.Sessions.{delivered_by, pass_of, taken_by};
 
 use crate::hand::{Hand, PortMessage};
 use chorus_nucleus::Pass;
+use std::alloc::Global;
 
-/// A caller of a running nucleus, which keeps each message that it is handed out.
+/// A caller of a running nucleus, which keeps each message that it is handed out, and each that it delivers.
 #[derive(Drop)]
 pub struct Session {
+    pub(crate) alloc: Global,
     pub(crate) pass: Pass,
     pub(crate) hand: Hand,
 }
@@ -20,6 +22,13 @@ impl Session {
         ensures { result.now ≡ taken_by self.now }
     {
         &self.hand.taken
+    }
+
+    /// The messages that the session delivered, in their order.
+    pub fn delivered(&self) -> &[PortMessage]
+        ensures { result.now ≡ delivered_by self.now }
+    {
+        &self.hand.delivered
     }
 
     /// How many messages the session posted.

@@ -1,6 +1,8 @@
 //! The ports that are made before sessions come.
 
 ghost use Rattle.chorus_nucleus.specs.Passes.{IsPassOf};
+ghost use Rattle.std.specs.Prelude.{OnOk};
+ghost use Rattle.chorus_sessions.specs.Playing.{AreMade, IsMade};
 ghost use Rattle.chorus_sessions.specs.Sessions.{Goes};
 
 use crate::fault::SessionsFault;
@@ -22,7 +24,8 @@ pub struct NewPort {
 #[tactic(auto, using(crate::proofs::Steps::calls))]
 fn make_port(nucleus: &Nucleus, pass: &mut Pass, port: NewPort) -> Result<(), SessionsFault>
     requires { IsPassOf nucleus.now pass.old }
-    ensures { Goes nucleus.now pass.old pass.new }
+    ensures goes { Goes nucleus.now pass.old pass.new }
+    ensures made { OnOk result (IsMade nucleus.now port pass.old pass.new) }
 {
     if !port.actor.is_actor() || port.capacity == 0 || port.capacity > 64 {
         return Err(SessionsFault::NoPort);
@@ -42,7 +45,8 @@ pub(crate) fn make_ports(
     ports: &[NewPort],
 ) -> Result<(), SessionsFault>
     requires { IsPassOf nucleus.now pass.old }
-    ensures { Goes nucleus.now pass.old pass.new }
+    ensures goes { Goes nucleus.now pass.old pass.new }
+    ensures made { OnOk result (AreMade nucleus.now ports.now pass.old pass.new) }
 {
     for index in 0..ports.len() {
         make_port(nucleus, pass, ports[index])?;

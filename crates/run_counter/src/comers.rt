@@ -46,6 +46,8 @@ pub(crate) struct Party {
 }
 
 impl Behaviour for Party {
+    ghost in_actor = { λ party. party.comer.actor };
+
     fn actor(&self) -> Ui {
         self.comer.actor
     }

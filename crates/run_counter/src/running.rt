@@ -61,7 +61,8 @@ fn ports_for(alloc: Global, holder: Ui, comers: &[Comer]) -> Result<Vec<NewPort>
 
 /// Runs a counter on a nucleus of this layout: it is made at the first actor of the site `first`, with room for 64 messages; each comer
 /// comes and runs in a thread of its own where one can be made; when all have run, packets are moved until none is left, and the servers
-/// take what is left in the counter. Where not all could come, none runs.
+/// take what is left in the counter. Where not all could come, none runs; where memory is wanting to move packets, the hands are as they
+/// were then.
 pub fn run_counter<R: Threads + Wait + Sync>(
     alloc: Global,
     rt: &R,

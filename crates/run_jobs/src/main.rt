@@ -2,8 +2,10 @@
 //!
 //! The queue is a port, and a job is a message to it. Its promise (`specs/Promise.antt`): the jobs that were handed out are the first
 //! that the queue accepted, in the order in which it accepted them, each at most once, whoever held the queue and wherever it was; and
-//! each of them is in the hand of the worker that took it, and in no other. `running` runs it. `comers` says what clients and workers
-//! do; nothing in it is proved but that their calls may be made, since the promise is the library's, whatever they do.
+//! each of them is in the hand of the worker that took it, and in no other. At the end (`specs/Ending.antt`) each job that was accepted
+//! is in one hand, or waits once, or was discarded; so is each of which a client was told so, with its bytes. `running` runs it. `comers`
+//! says what clients and workers do; nothing in it is proved but that their calls may be made, since the promise is the library's,
+//! whatever they do.
 //!
 //! What it prints does not tell who was faster: how many jobs were accepted, how many were handed out, and whether the
 //! journal is lawful.

@@ -39,6 +39,8 @@ fn first_id() -> MsgId {
 }
 
 impl Behaviour for Holder {
+    ghost in_actor = { λ holder. holder.actor };
+
     fn actor(&self) -> Ui {
         self.actor
     }

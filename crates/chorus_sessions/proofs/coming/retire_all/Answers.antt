@@ -1,7 +1,8 @@
-use Rattle.std.proofs.Common.{List, length, subst, arith}
+use Rattle.std.proofs.Common.{List, ◌∙◌, length, subst, arith}
 use Rattle.chorus_sessions.specs.declared.session.Session.{Session}
 use Rattle.chorus_sessions.specs.Sessions.{AreSessions}
 use Rattle.chorus_sessions.proofs.Comings.{sessions-but-last, went}
+use Rattle.chorus_sessions.proofs.Playing.{gone-more, retires-gave}
 use Rattle.chorus_sessions.proofs.coming.retire_all.Goals as goal
 
 pub retire-requires-clause-pass : goal.retire-requires-clause-pass
@@ -21,5 +22,14 @@ loop-session-preserved c =
     let shorter = c.in-Some.ensures.len in
     let count = i.3 in
     let room = i.4 in
-    let cap = c.push_reserved.ensures.capacity in
-    (c.retire.ensures.pass, more.0, two.0, omega (arith, longer, shorter, count), omega (arith, room, cap), more.1)
+    let cap = c.push_reserved.ensures.capacity in (
+      c.retire.ensures.pass,
+      more.0,
+      two.0,
+      omega (arith, longer, shorter, count),
+      omega (arith, room, cap),
+      more.1,
+      gone-more n c.args.sessions.items c.loop-session.sessions.items c.pop.new.self.items c.in-Some.session c.loop-session.hands.items c.push_reserved.new.self.items c.loop-session.pass c.retire.new.into
+          i.6 c.in-Some.ensures.items c.retire.ensures two.1 c.push_reserved.ensures.items,
+      retires-gave n c.in-Some.session.pass c.loop-session.pass c.retire.new.into c.retire.ensures ∙ i.7,
+    )

@@ -5,4 +5,4 @@ use Rattle.chorus_sessions.proofs.session.Session.move_port.Goals as goal
 pub returns-clause-session : goal.returns-clause-session
 returns-clause-session c =
     let n = c.args.nucleus.now in
-    session-goes n c.args.self.now _ c.requires.session (goes-act n _ _ _ _ refl c.move_port.ensures) refl refl
+    session-goes n c.args.self.now _ c.requires.session (goes-act n _ _ _ _ refl c.move_port.ensures) refl refl refl
