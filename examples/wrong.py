@@ -1,4 +1,4 @@
-"""Journals of which a line was changed, dropped, doubled or moved, and which of their lines is wrong by scripts/rules.py."""
+"""Journals of which a line was changed, dropped, doubled or moved, and whether `audit` and `judge` say one thing of them."""
 
 import os
 import re
@@ -57,13 +57,13 @@ def drawn(lines, draw):
     return lines, draw.choice(LAYOUTS)
 
 
-def found(lines, layout, most):
-    """The first of the lines of entries that may not stand there: its line, its rule, and what it needs. None where none of the first so many is."""
-    before = rules.Rules(*layout)
-    for number, line in enumerate(lines[:most], 2):
-        entry = rules.entry_at(number, line)
-        fault = before.fault(entry)
-        if fault:
-            return number, fault[0], fault[2]
-        before.follow(entry)
-    return None
+def are_one(lines, audited, judged):
+    """Whether what `judge` says of these lines is what `audit` says, with a condition that there are words for, and a line in front of it."""
+    line, rule = map(int, re.findall(r"\d+", audited))
+    found = re.match(r"wrong line (\d+) rule (\d+)(?: condition (\d+))?(?: line (\d+))?\n", judged)
+    at, by, condition, about = (int(it or 0) for it in found.groups())
+    if by == rules.REPLY_RULE:
+        return at < line == about and lines[at - 2].split(" ")[3] == "take"
+    if rule == rules.NO_LINE:
+        return (at, by, condition, about) == (line, rule, 0, 0)
+    return (at, by) == (line, rule) and about < line and bool(rules.words_of(lines[line - 2], rule, condition))

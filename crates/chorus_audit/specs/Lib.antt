@@ -2,4 +2,5 @@ pub mod Calls
 pub mod Report
 pub mod Tests
 pub mod Stops
+pub mod Reads
 pub mod Output

@@ -7,6 +7,7 @@ ghost use Rattle.chorus_audit.specs.declared.limits.TheConstants.{AUDIT_LIMIT};
 ghost use Rattle.chorus_audit.specs.declared.judging.Audit.TheVariants.{Legal, Wrong};
 ghost use Rattle.chorus_audit.specs.Report.{IsReport};
 ghost use Rattle.chorus_audit.specs.Tests.{head, lines_shared, IsRead, IsWrong, IsVerdict};
+ghost use Rattle.chorus_audit.specs.Reads.{IsReading};
 ghost use Rattle.chorus_audit.specs.Stops.{IsStop, TakesEntry};
 
 use crate::cut::cut;
@@ -57,11 +58,19 @@ pub fn read_text(alloc: Global, layout: Layout, text: &[u8]) -> Result<Reading, 
     ensures { IfOk result (λ reading.
         IsRead layout text.now reading.audit (reverse reading.world.past)) }
 {
+    read_for(alloc, layout, text)
+}
+
+/// Reads the text as [`read_text`] does, into a world of the layout.
+pub fn read_for(alloc: Global, layout: Layout, text: &[u8]) -> Result<Reading, AllocError>
+    requires { length text.now ≤ AUDIT_LIMIT }
+    ensures { IfOk result (IsReading layout text.now) }
+{
     let mut room = Vec::new(alloc);
     read_in(alloc, &mut room, layout, text)
 }
 
-/// Reads the text as [`read_text`] does, with lines read in the room, which is used again.
+/// Reads the text as [`read_for`] does, with lines read in the room, which is used again.
 fn read_in(
     alloc: Global,
     room: &mut Vec<u8>,
@@ -69,8 +78,7 @@ fn read_in(
     text: &[u8],
 ) -> Result<Reading, AllocError>
     requires { length text.now ≤ AUDIT_LIMIT }
-    ensures { IfOk result (λ reading.
-        IsRead layout text.now reading.audit (reverse reading.world.past)) }
+    ensures { IfOk result (IsReading layout text.now) }
 {
     let mut world = World::opening(alloc, layout)?;
     let Some((count, mut rest)) = told(text) else {

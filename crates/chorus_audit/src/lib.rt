@@ -24,6 +24,6 @@ mod words;
 
 pub use auditing::{audit, push_verdict};
 pub use entries::parse_entry;
-pub use judging::{Audit, Reading, audit_text, read_text};
+pub use judging::{Audit, Reading, audit_text, read_for, read_text};
 pub use law::a_text_has_one_verdict;
 pub use limits::{AUDIT_LIMIT, NO_LINE};

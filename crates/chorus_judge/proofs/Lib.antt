@@ -1,1 +1,3 @@
 pub mod Quieting
+pub mod Blamed
+pub mod Pieces

@@ -1,4 +1,5 @@
 pub mod Judgements
 pub mod Texts
 pub mod Findings
+pub mod Blaming
 pub mod Output

@@ -9,7 +9,9 @@ use Rattle.chorus_show.specs.declared.status.Status.TheVariants.{Done, WriteFaul
 use Rattle.chorus_audit.specs.declared.judging.Audit.{Audit}
 use Rattle.chorus_audit.specs.Tests.{IsRead}
 use Rattle.judge_heads.specs.Heads.{layout_for, IsPlain}
+use Rattle.judge_rules.specs.declared.blame.Blame.{Blame}
 use Rattle.law_judge.specs.Open.{all_open}
+use Rattle.chorus_judge.specs.Blaming.{BlamesBy}
 use Rattle.chorus_judge.specs.declared.judgement.Judgement.{Judgement}
 use Rattle.chorus_judge.specs.Judgements.{judgement_of}
 use Rattle.chorus_judge.specs.Texts.{judged_text}
@@ -20,7 +22,9 @@ pub record IsJudgedFor (l : Layout) (text : List ℕ) (judgement : Judgement) (t
   pub audit : Audit
   pub read : IsRead l text audit entries
   pub judged : judgement ≡ judgement_of audit (all_open l (reverse entries))
-  pub is : told ≡ judged_text l audit (reverse entries)
+  pub blame : Option Blame
+  pub blamed : BlamesBy l text audit entries blame
+  pub is : told ≡ judged_text l audit blame (reverse entries)
 
 -- it is judged with the plain head, for the layout that is asked for, else for the one that its own head names, if it
 -- does

@@ -1,11 +1,11 @@
 -- The text of a judgement: the verdict, how much is open with a line for each thing that is, at most so many, and who sat
 -- where.
-use Rattle.std.specs.Prelude.{ℕ, List, [], ◌∷◌, ◌++◌, Option, Some, None, codes, decimal, length, take}
+use Rattle.std.specs.Prelude.{ℕ, zero, suc, List, [], ◌∷◌, ◌++◌, Option, Some, None, codes, decimal, length, take}
 use Rattle.std.specs.List.{flat_map}
 use Rattle.chorus_ui.specs.declared.layout.Layout.{Layout}
 use Rattle.chorus_ui.specs.Text.{name_text}
 use Rattle.chorus_entry.specs.declared.entry.Entry.{Entry}
-use Rattle.chorus_show.specs.Phrases.{id_text, phrase}
+use Rattle.chorus_show.specs.Phrases.{id_text, phrase, spaced}
 use Rattle.chorus_show.specs.Journal.{count_line}
 use Rattle.chorus_audit.specs.declared.judging.Audit.{Audit}
 use Rattle.chorus_audit.specs.declared.judging.Audit.TheVariants.{Legal, Wrong}
@@ -16,6 +16,7 @@ use Rattle.law_judge.specs.declared.open.Open.{Open}
 use Rattle.law_judge.specs.declared.open.Open.TheVariants.{Message, Port, Reply}
 use Rattle.law_judge.specs.declared.open.OpenAt.{OpenAt}
 use Rattle.law_judge.specs.Open.{all_open}
+use Rattle.judge_rules.specs.declared.blame.Blame.{Blame}
 use Rattle.judge_seats.specs.declared.seating.SeatIn.{SeatIn}
 use Rattle.judge_seats.specs.Seats.{first_out, seats_in}
 use Rattle.chorus_judge.specs.declared.texts.TheConstants.{TOLD_LIMIT}
@@ -58,7 +59,27 @@ abbrev pub legal_text : ℕ → Option ℕ → List SeatIn → List OpenAt → L
 legal_text n None seats found = count_line (codes "run") n ++ open_text found ++ seat_lines seats
 legal_text n (Some line) seats found = legal_line n line ++ open_text found
 
--- of what an audit finds, and the entries that it read, the newest first
-abbrev pub judged_text : Layout → Audit → List Entry → List ℕ
-judged_text l (Wrong line rule) past = verdict_text (Wrong line rule) ++ open_text (all_open l past)
-judged_text l (Legal n) past = legal_text n (first_out l past) (seats_in l past) (all_open l past)
+-- of a wrong line: its rule, which condition of the rule is the first that fails, and the line of the entry that this is
+-- about, if there is one; of a line that is no entry what an audit says
+abbrev pub about_fields : ℕ → List (List ℕ)
+about_fields zero = []
+about_fields (suc n) = codes "line" ∷ decimal (suc n) ∷ []
+
+abbrev pub blamed_fields : Blame → List (List ℕ)
+blamed_fields b =
+    decimal b.line ∷ codes "rule" ∷ decimal b.rule ∷ codes "condition" ∷ decimal b.condition ∷ []
+
+abbrev pub blamed_line : Blame → List ℕ
+blamed_line b = phrase (codes "wrong line") (blamed_fields b)
+
+abbrev pub blame_text : Blame → List ℕ
+blame_text b = blamed_line b ++ spaced (about_fields b.about) ++ 10 ∷ []
+
+abbrev pub wrong_text : Audit → Option Blame → List ℕ
+wrong_text audit None = verdict_text audit
+wrong_text audit (Some b) = blame_text b
+
+-- of what an audit finds, what is blamed, and the entries that were read, the newest first
+abbrev pub judged_text : Layout → Audit → Option Blame → List Entry → List ℕ
+judged_text l (Wrong line rule) blame past = wrong_text (Wrong line rule) blame ++ open_text (all_open l past)
+judged_text l (Legal n) blame past = legal_text n (first_out l past) (seats_in l past) (all_open l past)

@@ -6,10 +6,11 @@ ghost use Rattle.chorus_audit.specs.declared.limits.TheConstants.{AUDIT_LIMIT};
 ghost use Rattle.chorus_audit.specs.Output.{ReadsBy};
 ghost use Rattle.chorus_judge.specs.Output.{IsJudged, IsJudgedFor, Judges, status_of};
 
+use crate::blaming::blame_in;
 use crate::finding::open_entries;
 use crate::judgement::{Judgement, judgement_of};
 use crate::texts::push_judged;
-use chorus_audit::{AUDIT_LIMIT, read_text};
+use chorus_audit::{AUDIT_LIMIT, read_for};
 use chorus_input::read_input;
 use chorus_io::{ReadAll, Sink, Source, write_all};
 use chorus_show::Status;
@@ -78,12 +79,14 @@ fn judged_for(
     requires { length text.now ≤ AUDIT_LIMIT }
     ensures { IfOk result (λ found. IsJudgedFor layout text.now found.0 found.1.items) }
 {
-    let reading = read_text(alloc, layout, text)?;
+    let reading = read_for(alloc, layout, text)?;
     let opens = open_entries(alloc, layout, reading.world.ledger())?;
+    let blame = blame_in(alloc, reading.world.ledger(), text, reading.audit)?;
     let mut told = Vec::new(alloc);
     push_judged(
         layout,
         reading.audit,
+        &blame,
         reading.world.entries(),
         &opens,
         &mut told,

@@ -7,12 +7,14 @@ ghost use Rattle.law_judge.specs.Open.{all_open};
 ghost use Rattle.judge_seats.specs.declared.seating.SeatIn.{SeatIn};
 ghost use Rattle.judge_seats.specs.Tables.{Tells};
 ghost use Rattle.chorus_judge.specs.declared.texts.TheConstants.{TOLD_LIMIT};
-ghost use Rattle.chorus_judge.specs.Texts.{awaited_word, judged_text, legal_line, legal_text, open_line, open_lines, open_text, seat_line, seat_lines, thing_text};
+ghost use Rattle.chorus_judge.specs.Texts.{about_fields, awaited_word, blame_text, blamed_line, judged_text, legal_line, legal_text, open_line, open_lines, open_text, seat_line, seat_lines, thing_text, wrong_text};
+ghost use Rattle.chorus_show.specs.Phrases.{spaced};
 
 use chorus_audit::{Audit, push_verdict};
 use chorus_entry::Entry;
 use chorus_show::push_id;
 use chorus_ui::{Layout, push_decimal};
+use judge_rules::Blame;
 use judge_seats::{SeatIn, Seating, seat_callers};
 use law_judge::{Awaited, Open, OpenAt};
 use std::alloc::AllocError;
@@ -20,22 +22,23 @@ use std::alloc::AllocError;
 /// The most lines that tell what is open.
 pub const TOLD_LIMIT: usize = 100;
 
-/// Appends the text of a judgement: what an audit finds, who sat where in the entries that it read, and what is open. After an
-/// error a part of it may stand there.
+/// Appends the text of a judgement: what an audit finds or what is blamed, what is open, and who sat where in the entries that were
+/// read. After an error a part of it may stand there.
 pub(crate) fn push_judged(
     layout: Layout,
     audit: Audit,
+    blame: &Option<Blame>,
     entries: &[Entry],
     opens: &[OpenAt],
     out: &mut Vec<u8>,
 ) -> Result<(), AllocError>
     requires { opens.now ≡ all_open layout (reverse entries.now) }
     ensures { OnOk result (out.new.items
-        ≡ out.old.items ++ judged_text layout audit (reverse entries.now)) }
+        ≡ out.old.items ++ judged_text layout audit blame.now (reverse entries.now)) }
 {
     match audit {
         Audit::Wrong { .. } => {
-            push_refused(audit, opens, out)?;
+            push_refused(audit, blame, opens, out)?;
             Ok(())
         }
         Audit::Legal { entries: count } => {
@@ -46,12 +49,61 @@ pub(crate) fn push_judged(
 }
 
 /// Appends the text of a journal that is judged to be wrong.
-fn push_refused(audit: Audit, opens: &[OpenAt], out: &mut Vec<u8>) -> Result<(), AllocError>
+fn push_refused(
+    audit: Audit,
+    blame: &Option<Blame>,
+    opens: &[OpenAt],
+    out: &mut Vec<u8>,
+) -> Result<(), AllocError>
     ensures { OnOk result (out.new.items
-        ≡ out.old.items ++ verdict_text audit ++ open_text opens.now) }
+        ≡ out.old.items ++ wrong_text audit blame.now ++ open_text opens.now) }
 {
-    push_verdict(audit, out)?;
+    push_wrong(audit, blame, out)?;
     push_opens(opens, out)
+}
+
+/// Appends the verdict on a wrong line of a judged journal: what is blamed, or what an audit finds.
+fn push_wrong(audit: Audit, blame: &Option<Blame>, out: &mut Vec<u8>) -> Result<(), AllocError>
+    ensures { OnOk result (out.new.items ≡ out.old.items ++ wrong_text audit blame.now) }
+{
+    match blame {
+        Some(blame) => push_blame(blame, out),
+        None => push_verdict(audit, out),
+    }
+}
+
+/// Appends what is blamed for a wrong line of a judged journal.
+fn push_blame(blame: &Blame, out: &mut Vec<u8>) -> Result<(), AllocError>
+    ensures { OnOk result (out.new.items ≡ out.old.items ++ blame_text blame.now) }
+{
+    push_blamed(blame, out)?;
+    push_about(blame.about, out)?;
+    out.push(b'\n')?;
+    Ok(())
+}
+
+/// Appends the wrong line of a judged journal, its rule, and which condition of the rule fails.
+fn push_blamed(blame: &Blame, out: &mut Vec<u8>) -> Result<(), AllocError>
+    ensures { OnOk result (out.new.items ≡ out.old.items ++ blamed_line blame.now) }
+{
+    out.extend_from_slice(b"wrong line ")?;
+    push_decimal(blame.line, out)?;
+    out.extend_from_slice(b" rule ")?;
+    push_decimal(u64::from(blame.rule), out)?;
+    out.extend_from_slice(b" condition ")?;
+    push_decimal(u64::from(blame.condition), out)?;
+    Ok(())
+}
+
+/// Appends the line of the entry that the condition of a judged journal is about, if there is one.
+fn push_about(line: u64, out: &mut Vec<u8>) -> Result<(), AllocError>
+    ensures { OnOk result (out.new.items ≡ out.old.items ++ spaced (about_fields line)) }
+{
+    if line != 0 {
+        out.extend_from_slice(b" line ")?;
+        push_decimal(line, out)?;
+    }
+    Ok(())
 }
 
 /// Appends the text of a lawful journal of so many entries that was judged.

@@ -43,7 +43,8 @@ pub fn blame_for(ledger: &Ledger, entry: &Entry, rule: u8) -> Blame
 
 /// Whether the entry's place is one of the layout, and its clock above the last one there, by which it is judged.
 fn is_timely(ledger: &Ledger, entry: &Entry) -> bool
-    ensures { result ≡ is_timely ledger.now.layout (views ledger.now.past entry.now.place entry.now.seat entry.now.act) entry.now }
+    ensures { result ≡ is_timely ledger.now.layout
+        (views ledger.now.past entry.now.place entry.now.seat entry.now.act) entry.now }
 {
     ledger.layout().has_place(entry.place) && ledger.last_clock(entry.place) < entry.clock
 }
@@ -61,7 +62,8 @@ fn timely_failed(ledger: &Ledger, entry: &Entry) -> Failed
 
 /// Whether the act may stand behind what was taken last at its place, by which it is judged.
 fn may_stand_behind(ledger: &Ledger, place: u16, act: &Act) -> bool
-    ensures { result ≡ may_stand_behind (just_taken ledger.now.past (at place ledger.now.past)) act.now }
+    ensures { result ≡ may_stand_behind
+        (just_taken ledger.now.past (at place ledger.now.past)) act.now }
 {
     match ledger.just_taken(place) {
         Some(_) => matches!(act, Act::Done { .. } | Act::Late { .. }),

@@ -70,7 +70,8 @@ pub(crate) fn is_group_place(layout: Layout, place: u16, group: Ui) -> bool
 
 /// Whether the place locates the port there, by this hop, by which a condition is judged.
 pub(crate) fn is_located(ledger: &Ledger, place: u16, port: Ui, to: u16, hop: u64) -> bool
-    ensures { result ≡ is_location to hop (located_at ledger.now.layout ledger.now.past place port) }
+    ensures { result ≡ is_location to hop
+        (located_at ledger.now.layout ledger.now.past place port) }
 {
     let at = ledger.located(place, port);
     at.to == to && at.hop == hop

@@ -92,14 +92,16 @@ fn is_seated(
     here: &Sitting,
     known: bool,
 ) -> bool
-    ensures { result ≡ (known || is_some (sits_by layout (is_out_in outs.now seat) (Some here.now))) }
+    ensures { result ≡ (known
+        || is_some (sits_by layout (is_out_in outs.now seat) (Some here.now))) }
 {
     known || sits_by(layout, outs, seat, Some(*here)).is_some()
 }
 
 /// Puts a caller of which nothing is known last in the order.
 fn follow_order(order: &mut Vec<u32>, seat: u32, row: &Option<Sitting>) -> Result<(), AllocError>
-    ensures { OnOk result (order.new.items ≡ cond (is_none row.now) (order.old.items ++ seat ∷ []) order.old.items) }
+    ensures { OnOk result (order.new.items
+        ≡ cond (is_none row.now) (order.old.items ++ seat ∷ []) order.old.items) }
 {
     if row.is_none() {
         order.push(seat)?;

@@ -11,27 +11,32 @@ use std::process::Abort;
 
 /// How a judgement ended, and what was written.
 #[derive(Drop)]
-struct Outcome {
-    ended: Result<Judgement, Status>,
-    written: String,
+pub(crate) struct Outcome {
+    pub(crate) ended: Result<Judgement, Status>,
+    pub(crate) written: String,
 }
 
-/// Judges the text for eight sites of one place, where this read fails, and this write, of at most so many bytes. None is numbered 0.
-fn judged(
+/// Judges the text for the layout asked, where this read fails, and this write, of at most so many bytes. None is numbered 0.
+pub(crate) fn judged(
     rt: &impl Abort,
     alloc: Global,
+    asked: Option<Layout>,
     text: &str,
     read: u64,
     most: usize,
     write: u64,
 ) -> Outcome {
-    let layout = Layout::new(8, 1).expect(rt, "a layout");
     let mut source = source_of(rt, alloc, text, read);
     let mut sink = sink_of(rt, alloc, most, write);
-    let ended = judge(alloc, Some(layout), &mut source, &mut sink);
+    let ended = judge(alloc, asked, &mut source, &mut sink);
     let bytes = Vec::from_slice(alloc, sink.bytes()).expect(rt, "memory");
     let written = String::from_utf8(bytes).ok().expect(rt, "a text");
     Outcome { ended, written }
+}
+
+/// Eight sites of one place.
+fn eight_sites() -> Option<Layout> {
+    Layout::new(8, 1)
 }
 
 /// The journal of the entries that these lines have, with their summary.
@@ -260,7 +265,7 @@ seat 2 1.a.1
 9 1 1 empty 1.p.2
 ",
         Judgement::Wrong,
-        "wrong line 10 rule 22\nopen 1\nline 9 reply 2:1:0 without done\n",
+        "wrong line 9 rule 41 condition 1 line 10\nopen 1\nline 9 reply 2:1:0 without done\n",
     ),
     (
         "an arrival that nothing left for, where a message waits",
@@ -270,7 +275,7 @@ seat 2 1.a.1
 3 2 0 arrive 1.p.1 1
 ",
         Judgement::Wrong,
-        "wrong line 4 rule 26\nopen 1\nline 3 message 1:1:0 without verdict\n",
+        "wrong line 4 rule 26 condition 2 line 2\nopen 1\nline 3 message 1:1:0 without verdict\n",
     ),
 ];
 
@@ -279,7 +284,7 @@ seat 2 1.a.1
 fn judges_journals(rt: HostRuntime) {
     for (name, lines, judgement, told) in ROWS {
         let text = journal_of(&rt, rt.alloc(), lines);
-        let found = judged(&rt, rt.alloc(), text.as_str(), 0, 64, 0);
+        let found = judged(&rt, rt.alloc(), eight_sites(), text.as_str(), 0, 64, 0);
         assert_eq!(&rt; found.written.as_str(), told, "{name}");
         assert!(&rt; found.ended == Ok(judgement), "{name}");
     }
@@ -308,7 +313,7 @@ fn tells_a_hundred(rt: HostRuntime) {
     }
     writeln!(told, "seat 1 1.a.1").expect(&rt, "memory");
     let text = journal_of(&rt, rt.alloc(), lines.as_str());
-    let found = judged(&rt, rt.alloc(), text.as_str(), 0, 1 << 16, 0);
+    let found = judged(&rt, rt.alloc(), eight_sites(), text.as_str(), 0, 1 << 16, 0);
     assert_eq!(&rt; found.written.as_str(), told.as_str());
 }
 
@@ -317,11 +322,11 @@ fn tells_a_hundred(rt: HostRuntime) {
 fn reads_and_writes_fail(rt: HostRuntime) {
     let text = journal_of(&rt, rt.alloc(), "");
     for read in 1..=2 {
-        let found = judged(&rt, rt.alloc(), text.as_str(), read, 1, 0);
+        let found = judged(&rt, rt.alloc(), eight_sites(), text.as_str(), read, 1, 0);
         assert!(&rt; found.ended == Err(Status::ReadFault), "read {read}");
         assert_eq!(&rt; found.written.as_str(), "", "read {read}");
     }
-    let found = judged(&rt, rt.alloc(), text.as_str(), 0, 1, 8);
+    let found = judged(&rt, rt.alloc(), eight_sites(), text.as_str(), 0, 1, 8);
     assert!(&rt; found.ended == Err(Status::WriteFault), "a write");
     assert_eq!(&rt; found.written.as_str(), "run 0\no", "a write");
 }
