@@ -1,0 +1,4 @@
+pub mod Reading
+pub mod Ports
+pub mod Accepting
+pub mod Keeping
