@@ -1,10 +1,14 @@
 -- What a top call did to its sink, by its status.
-use Rattle.std.specs.Prelude.{◌≡◌, ℕ, List, [], Option, Some, None}
+use Rattle.std.specs.Prelude.{◌≡◌, ℕ, List, [], ◌++◌, Option, Some, None, codes, decimal}
+use Rattle.std.specs.List.{flat_map}
 use Rattle.std.specs.Io.KnownBytes.{Appends}
 use Rattle.chorus_io.specs.Bytes.{AppendsPrefix}
-use Rattle.chorus_show.specs.Summary.{summary_text}
+use Rattle.chorus_entry.specs.declared.entry.Entry.{Entry}
+use Rattle.chorus_show.specs.Journal.{journal_text}
+use Rattle.chorus_show.specs.Summary.{summary_text, message_lines, discarded_line, other_lines}
 use Rattle.chorus_show.specs.Report.{report}
 use Rattle.chorus_net.specs.declared.closed.Closed.{Closed}
+use Rattle.chorus_report.specs.declared.stuck.Stuck.{Stuck}
 use Rattle.chorus_report.specs.declared.writing.Text.{Text}
 use Rattle.chorus_report.specs.declared.writing.Text.TheVariants as texts
 use Rattle.chorus_net.specs.Closing.{merge_of}
@@ -44,6 +48,26 @@ abbrev pub text_of : Option Closed → List ℕ
 text_of None = []
 text_of (Some closed) = report (merge_of closed)
 
+-- A line for each script that is stuck stands before the end.
+abbrev pub stuck_line : Stuck → List ℕ
+stuck_line s = codes "stuck " ++ decimal s.script ++ codes " " ++ decimal s.command ++ codes "\n"
+
+abbrev pub summary_lines : List Entry → List ℕ
+summary_lines entries =
+    codes "summary\n" ++ message_lines entries ++ discarded_line entries ++ other_lines entries
+
+abbrev pub report_with : List Stuck → List Entry → List ℕ
+report_with stuck entries =
+    journal_text entries ++ (summary_lines entries ++ (flat_map stuck_line stuck ++ codes "end\n"))
+
+-- the bytes end so
+abbrev pub IsEnded : List ℕ → Type 0
+IsEnded bytes = (front : List ℕ) × (bytes ≡ front ++ codes "end\n")
+
+abbrev pub text_with : List Stuck → Option Closed → List ℕ
+text_with stuck None = []
+text_with stuck (Some closed) = report_with stuck (merge_of closed)
+
 -- or the summary text alone
 abbrev pub summary : Closed → List ℕ
 summary closed = summary_text (merge_of closed)
@@ -52,6 +76,6 @@ abbrev pub summary_of : Option Closed → List ℕ
 summary_of None = []
 summary_of (Some closed) = summary closed
 
-abbrev pub text_as : Text → Option Closed → List ℕ
-text_as texts.Report closed = text_of closed
-text_as texts.Summary closed = summary_of closed
+abbrev pub text_as : Text → List Stuck → Option Closed → List ℕ
+text_as texts.Report stuck closed = text_with stuck closed
+text_as texts.Summary stuck closed = summary_of closed
