@@ -2,3 +2,5 @@ pub mod Reading
 pub mod Ports
 pub mod Accepting
 pub mod Keeping
+pub mod Ties
+pub mod Taking
