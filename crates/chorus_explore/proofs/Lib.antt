@@ -23,4 +23,5 @@ pub mod Deciding
 pub mod Failing
 pub mod DrawnHistories
 pub mod DrawnClaims
+pub mod ToldBeside
 pub mod AlikeSites

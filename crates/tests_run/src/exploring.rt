@@ -18,7 +18,7 @@ fn explore_on<S: Source, K: Sink>(
     source: &mut S,
     sink: &mut K,
 ) -> Status {
-    explore(alloc, sixteen(rt), most, source, sink)
+    explore(alloc, sixteen(rt), most, 1, source, sink)
 }
 
 /// What an exploration with at most so many events tells of the scenario.
