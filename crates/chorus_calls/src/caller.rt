@@ -1,6 +1,6 @@
 //! A caller: a seat of an actor.
 
-ghost use Rattle.std.specs.Prelude.{◌≡◌, ◌+◌, ◌<◌};
+ghost use Rattle.std.specs.Prelude.{◌≡◌, ◌+◌, ◌<◌, IfOk};
 ghost use Rattle.std.specs.Borrow.{sem};
 ghost use Rattle.chorus_calls.specs.Callers.{new_caller, after_tick, raised, after_post, with_hand, IsNumbered, HasBack};
 ghost use Rattle.chorus_calls.specs.Lending.{LendsClient};
@@ -8,9 +8,10 @@ ghost use Rattle.chorus_calls.specs.Lending.{LendsClient};
 use crate::client::Client;
 use chorus_entry::Hand;
 use chorus_ui::Ui;
+use std::alloc::AllocError;
 use std::marker::Model;
 
-/// A seat of an actor, from which commands come: what its home place keeps of it. No function of it takes memory.
+/// A seat of an actor, from which commands come: what its home place keeps of it. Only a copy of it takes memory.
 #[derive(Drop)]
 pub struct Caller {
     seat: u32,
@@ -52,6 +53,20 @@ impl Caller {
             client: Client::new(),
             hand: None,
         }
+    }
+
+    /// The same caller again, in memory of its own.
+    pub fn copied(&self) -> Result<Caller, AllocError>
+        ensures { IfOk result (λ caller. caller ≡ self.now) }
+    {
+        Ok(Caller {
+            seat: self.seat,
+            actor: self.actor,
+            last: self.last,
+            posts: self.posts,
+            client: self.client.copied()?,
+            hand: self.hand,
+        })
     }
 
     /// Its seat.

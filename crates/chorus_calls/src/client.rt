@@ -1,6 +1,6 @@
 //! The calls of one caller, one after another.
 
-ghost use Rattle.std.specs.Prelude.{◌≡◌, ◌<◌, IfSome};
+ghost use Rattle.std.specs.Prelude.{◌≡◌, ◌<◌, IfSome, IfOk};
 ghost use Rattle.std.specs.Option.{option_map};
 ghost use Rattle.chorus_ui.specs.declared.kind.Kind.TheVariants as Kind;
 ghost use Rattle.chorus_calls.specs.Clients.{new_client, begun, after_begin, number_of, answer_to, after_settle, after_cancel, IsLatest, IsRequest};
@@ -8,6 +8,7 @@ ghost use Rattle.chorus_calls.specs.Again.{call_again};
 
 use chorus_entry::Body;
 use chorus_ui::Ui;
+use std::alloc::AllocError;
 use std::marker::Model;
 
 /// A call as it was begun.
@@ -17,6 +18,20 @@ struct Call {
     port: Ui,
     back: Ui,
     body: Body,
+}
+
+impl Call {
+    /// The same call again, in memory of its own.
+    fn copied(&self) -> Result<Call, AllocError>
+        ensures { IfOk result (λ call. call ≡ self.now) }
+    {
+        Ok(Call {
+            number: self.number,
+            port: self.port,
+            back: self.back,
+            body: self.body.copied()?,
+        })
+    }
 }
 
 /// A call is outstanding already, so that no other begins.
@@ -50,7 +65,7 @@ pub enum Settle {
 
 /// The calls of one caller: at most one of them is outstanding. Each has a number, from 1 on, and none has that of another.
 /// That a call is a request which is answered by a reply is from the Chorus article of 1988; the numbers, the port of the
-/// reply, sending again and `cancel` are this project's own. No function of it takes memory.
+/// reply, sending again and `cancel` are this project's own. Only a copy of it takes memory.
 #[derive(Drop)]
 pub struct Client {
     outstanding: Option<Call>,
@@ -80,6 +95,20 @@ impl Client {
             outstanding: None,
             given: 0,
         }
+    }
+
+    /// The same calls of a caller again, in memory of their own.
+    pub(crate) fn copied(&self) -> Result<Client, AllocError>
+        ensures { IfOk result (λ client. client ≡ self.now) }
+    {
+        let outstanding = match &self.outstanding {
+            Some(call) => Some(call.copied()?),
+            None => None,
+        };
+        Ok(Client {
+            outstanding,
+            given: self.given,
+        })
     }
 
     /// How many numbers it gave, which is the last one, or 0. The outstanding call has the last one.

@@ -1,11 +1,14 @@
 //! What places send to one another.
 
+ghost use Rattle.std.specs.Prelude.{◌≡◌, IfOk};
+
 use crate::answer::Answer;
 use crate::dest::Dest;
 use crate::id::MsgId;
 use crate::message::Message;
 use crate::record::PortRecord;
 use chorus_ui::Ui;
+use std::alloc::AllocError;
 
 /// What one place sends to another.
 #[derive(Drop)]
@@ -51,4 +54,64 @@ pub enum Cargo {
         id: MsgId,
         answer: Answer,
     },
+}
+
+impl Packet {
+    /// The same packet again, in memory of its own.
+    pub fn copied(&self) -> Result<Packet, AllocError>
+        ensures { IfOk result (λ packet. packet ≡ self.now) }
+    {
+        let cargo = self.cargo.copied()?;
+        Ok(Packet {
+            clock: self.clock,
+            from: self.from,
+            cargo,
+        })
+    }
+}
+
+impl Cargo {
+    /// The same contents of a packet again, in memory of their own.
+    fn copied(&self) -> Result<Cargo, AllocError>
+        ensures { IfOk result (λ cargo. cargo ≡ self.now) }
+    {
+        let cargo = match self {
+            Cargo::Try {
+                message,
+                port,
+                route,
+                only,
+                hop,
+            } => Cargo::Try {
+                message: message.copied(message.id.copy)?,
+                port: *port,
+                route: *route,
+                only: *only,
+                hop: *hop,
+            },
+            Cargo::Verdict {
+                id,
+                port,
+                route,
+                answer,
+            } => Cargo::Verdict {
+                id: *id,
+                port: *port,
+                route: *route,
+                answer: *answer,
+            },
+            Cargo::Transfer { port } => Cargo::Transfer {
+                port: port.copied()?,
+            },
+            Cargo::Ask { message, dest } => Cargo::Ask {
+                message: message.copied(message.id.copy)?,
+                dest: *dest,
+            },
+            Cargo::Report { id, answer } => Cargo::Report {
+                id: *id,
+                answer: *answer,
+            },
+        };
+        Ok(cargo)
+    }
 }

@@ -12,7 +12,8 @@ pub use clients::ClientTable;
 pub use pending::Pending;
 use std::alloc::{AllocError, Global};
 
-/// All that the place which holds a port knows of it. It is moved with the port and never copied, so each port has one.
+/// All that the place which holds a port knows of it. It is moved with the port, so on its sites each port has one; only copies of
+/// whole sites have others.
 ///
 /// A record keeps room for as many messages as any port may hold and for the clients that it may remember: what a port
 /// does after it is made takes no memory, wherever it goes.
@@ -54,6 +55,21 @@ impl PortRecord {
             first: 0,
             pending: Pending::with_room(alloc)?,
             clients: ClientTable::with_room(alloc)?,
+        })
+    }
+
+    /// The same record of a port again, in memory of its own.
+    pub fn copied(&self) -> Result<PortRecord, AllocError>
+        ensures { IfOk result (λ port. port ≡ self.now) }
+    {
+        Ok(PortRecord {
+            ui: self.ui,
+            actor: self.actor,
+            capacity: self.capacity,
+            hop: self.hop,
+            first: self.first,
+            pending: self.pending.copied()?,
+            clients: self.clients.copied()?,
         })
     }
 }

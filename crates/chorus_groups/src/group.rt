@@ -50,6 +50,21 @@ impl Group {
         })
     }
 
+    /// The same group again, in memory of its own.
+    pub(crate) fn copied(&self) -> Result<Group, AllocError>
+        ensures { IfOk result (λ group. group ≡ self.now) }
+    {
+        let mut members = Vec::with_capacity(*self.members.allocator(), MEMBERS_LIMIT)?;
+        for member in &self.members {
+            members.push_reserved(*member);
+        }
+        Ok(Group {
+            ui: self.ui,
+            members,
+            rotation: self.rotation,
+        })
+    }
+
     /// Whether this is its name.
     pub(crate) fn is_named(&self, ui: Ui) -> bool
         ensures { result ≡ same_ui self.now.ui ui }

@@ -68,6 +68,18 @@ impl Groups {
         Ok(Groups { groups })
     }
 
+    /// The same groups again, in memory of their own.
+    pub fn copied(&self) -> Result<Groups, AllocError>
+        ensures { IfOk result (λ groups. groups ≡ self.now) }
+    {
+        let room = self.groups.capacity();
+        let mut groups = Vec::with_capacity(*self.groups.allocator(), room)?;
+        for group in &self.groups {
+            groups.push_reserved(group.copied()?);
+        }
+        Ok(Groups { groups })
+    }
+
     /// How many more groups there is room for.
     pub fn spare(&self) -> usize
         ensures { result ≡ self.now.spare }

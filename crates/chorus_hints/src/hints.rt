@@ -42,6 +42,17 @@ impl Hints {
         Ok(Hints { layout, pairs })
     }
 
+    /// The same pairs again, in memory of their own.
+    pub fn copied(&self) -> Result<Hints, AllocError>
+        ensures { IfOk result (λ hints. hints ≡ self.now) }
+    {
+        let pairs = Vec::from_slice(*self.pairs.allocator(), &self.pairs)?;
+        Ok(Hints {
+            layout: self.layout,
+            pairs,
+        })
+    }
+
     /// The layout whose ports these are.
     pub fn layout(&self) -> Layout
         ensures { result ≡ self.now.layout }

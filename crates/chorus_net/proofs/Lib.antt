@@ -3,6 +3,7 @@ pub mod Fresh
 pub mod Renewing
 pub mod Untouched
 pub mod Changes
+pub mod Onto
 pub mod Puts
 pub mod Events
 pub mod Deliveries

@@ -42,7 +42,7 @@ one-restarted l k zero (p ∷ ps) q h s = ((let e : k + 0 ≡ k = omega arith in
 one-restarted l k (suc i) (p ∷ ps) q h s =
     (h.0, one-restarted l (k + 1) i ps q h.1 (let e : k + suc i ≡ (k + 1) + i = omega arith in subst (λ j. HasStarted l j q) e s))
 
-none-wait : (n : ℕ) (ls : List (List Packet)) → length ls ≡ n → count ls ≡ 0 → ls ≡ replicate n []
+pub none-wait : (n : ℕ) (ls : List (List Packet)) → length ls ≡ n → count ls ≡ 0 → ls ≡ replicate n []
 none-wait zero [] e h = refl
 none-wait zero (l ∷ ls) e h = absurd (omega (arith, e))
 none-wait (suc n) [] e h = absurd (omega (arith, e))

@@ -1,4 +1,5 @@
 pub mod Closing
+pub mod Copies
 pub mod Drains
 pub mod Room
 pub mod Sites

@@ -8,6 +8,7 @@
 
 mod closed;
 mod closing;
+mod copying;
 mod fault;
 mod giving;
 mod mark;

@@ -78,7 +78,7 @@ fn restart_place(
 }
 
 /// Whether the place has no entry, and no packet waits there, so that it is not started again.
-fn has_nothing(place: &Place) -> bool
+pub(crate) fn has_nothing(place: &Place) -> bool
     ensures entries { result ≡ true → place.now.journal ≡ [] }
     ensures packets { result ≡ true → count place.now.out.lists ≡ 0 }
 {

@@ -19,6 +19,7 @@ ghost use Rattle.chorus_net.specs.Worn.{IsWornIn};
 
 use crate::closed::Closed;
 use crate::closing::{count_packets, count_ports, take_apart};
+use crate::copying::{callers_onto, places_onto};
 use crate::fault::EnterFault;
 use crate::giving::may_give;
 use crate::mark::Mark;
@@ -110,6 +111,30 @@ impl Sites {
             places,
             callers,
         })
+    }
+
+    /// Other sites, on which the same happened as on these. They take the place of used ones of the same layout and have their mark;
+    /// where nothing happened on a place of both, it stays as it is. The only error is want of memory: then the used ones are gone.
+    #[tactic(auto, using(crate::proofs::Onto::sites_usable, crate::proofs::Onto::onto_net, crate::proofs::Onto::onto_sites))]
+    pub fn copied_onto(&self, alloc: Global, used: Sites) -> Result<Sites, AllocError>
+        requires { used.layout ≡ self.now.layout }
+        ensures same { IfOk result (λ sites. net sites ≡ net self.now) }
+        ensures mark { IfOk result (λ sites. sites.mark ≡ used.mark) }
+    {
+        Ok(Sites {
+            layout: self.layout,
+            mark: used.mark,
+            places: places_onto(alloc, &self.places, used.places)?,
+            callers: callers_onto(&self.callers, used.callers)?,
+        })
+    }
+
+    /// Other sites, on which the same happened as on these, all in memory of their own. The only error is want of memory.
+    pub fn copied(&self, alloc: Global) -> Result<Sites, AllocError>
+        ensures { IfOk result (λ sites. net sites ≡ net self.now) }
+    {
+        let used = Sites::start(alloc, self.layout)?;
+        self.copied_onto(alloc, used)
     }
 
     /// The layout of the sites.

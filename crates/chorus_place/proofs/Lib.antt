@@ -4,3 +4,4 @@ pub mod GivenPosts
 pub mod Ended
 pub mod Bounded
 pub mod Passing
+pub mod Copied

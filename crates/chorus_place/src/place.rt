@@ -62,6 +62,18 @@ impl Place {
         Ok(Place { tables })
     }
 
+    /// The same place again, in memory of its own; the room may differ.
+    #[tactic(auto, using(crate::proofs::Copied::copied_rest))]
+    pub fn copied(&self, alloc: Global) -> Result<Place, AllocError>
+        ensures state { IfOk result (λ place. state place ≡ state self.now) }
+        ensures waits { IfOk result (λ place. place.out.lists ≡ self.now.out.lists) }
+        ensures puts { IfOk result (λ place. place.out.puts ≡ self.now.out.puts) }
+    {
+        let tables = self.tables.copied()?;
+        let tables = Box::new(alloc, tables)?;
+        Ok(Place { tables })
+    }
+
     /// The layout of the place.
     pub fn layout(&self) -> Layout
         ensures { result ≡ self.now.layout }

@@ -113,6 +113,29 @@ impl Tables {
         })
     }
 
+    /// The same place again, in which no turn has put a packet, in memory of its own; the room may differ.
+    #[tactic(auto, using(crate::proofs::Copied::copied_boxed, crate::proofs::Copied::copied_kept, crate::proofs::Copied::copied_counted))]
+    pub(crate) fn copied(&self) -> Result<Tables, AllocError>
+        requires { self.now.puts ≡ [] }
+        ensures state { IfOk result (λ place. state place ≡ state self.now) }
+        ensures lists { IfOk result (λ place. place.out.lists ≡ self.now.out.lists) }
+        ensures puts { IfOk result (λ place. place.out.puts ≡ self.now.out.puts) }
+        ensures none { IfOk result (λ place. place.puts ≡ []) }
+        ensures layout { IfOk result (λ place. place.layout ≡ self.now.layout) }
+    {
+        Ok(Tables {
+            layout: self.layout,
+            number: self.number,
+            journal: self.journal.copied()?,
+            ports: self.ports.copied()?,
+            hints: self.hints.copied()?,
+            waits: self.waits.copied()?,
+            unheard: self.unheard.copied()?,
+            puts: VecDeque::new(*self.puts.allocator()),
+            out: self.out.copied()?,
+        })
+    }
+
     /// Takes the place apart: its entries in order, the packets that wait to go to other places, and the ports that are held.
     pub(crate) fn finish(self) -> (Vec<Entry>, Outbox, Ports)
         ensures journal { reverse result.0.items ≡ (state self).journal }

@@ -52,6 +52,18 @@ impl Ports {
         Ok(Ports { records, most })
     }
 
+    /// The same table again, in memory of its own.
+    pub fn copied(&self) -> Result<Ports, AllocError>
+        ensures { IfOk result (λ ports. ports ≡ self.now) }
+    {
+        let most = self.most;
+        let mut records = Vec::with_capacity(*self.records.allocator(), usize::from(most))?;
+        for port in &self.records {
+            records.push_reserved(port.copied()?);
+        }
+        Ok(Ports { records, most })
+    }
+
     /// How many ports are held.
     pub fn len(&self) -> u16
         ensures len { result ≡ length self.now.records }

@@ -1,6 +1,6 @@
 //! The journal of a place.
 
-ghost use Rattle.std.specs.Prelude.{◌≡◌, ◌+◌, ◌-◌, ◌<◌, ◌≤◌, [], ◌∷◌, length, reverse, is_some, IfOk, OnOk, OnErr};
+ghost use Rattle.std.specs.Prelude.{◌≡◌, ◌+◌, ◌-◌, ◌<◌, ◌≤◌, [], ◌∷◌, length, reverse, is_some, vec_capacity, IfOk, OnOk, OnErr};
 ghost use Rattle.chorus_ui.specs.declared.ui.Ui.{Ui};
 ghost use Rattle.chorus_ui.specs.declared.limits.TheConstants.{GROUPS_PER_SITE_LIMIT};
 ghost use Rattle.chorus_entry.specs.declared.act.Act.TheVariants.{GroupMake};
@@ -19,7 +19,7 @@ use std::alloc::{AllocError, Global};
 use std::marker::Model;
 
 /// The entries of a place, in order, and what is counted from them: the clock of the last one, how many ports were made, which
-/// ports were made and which deleted, and the groups. It is appended to and never copied.
+/// ports were made and which deleted, and the groups. It is appended to; only a copy of a whole place copies it.
 #[derive(Drop)]
 pub struct Journal {
     layout: Layout,
@@ -49,6 +49,19 @@ impl Model for Journal {
         × IsCounted (reverse j.entries.items) j.clock j.made_count j.made j.deleted j.groups };
 }
 
+/// The entries again, in memory of their own, with room for so many in all.
+fn entries_copied(alloc: Global, entries: &[Entry], room: usize) -> Result<Vec<Entry>, AllocError>
+    requires { length entries.now ≤ room }
+    ensures items { IfOk result (λ copies. copies.items ≡ entries.now) }
+    ensures room { IfOk result (λ copies. vec_capacity copies ≡ room) }
+{
+    let mut copies = Vec::with_capacity(alloc, room)?;
+    for entry in entries {
+        copies.push_reserved(entry.copied()?);
+    }
+    Ok(copies)
+}
+
 impl Journal {
     /// No entry, and room for the groups of a site, but for no entry.
     pub fn with_room(alloc: Global, layout: Layout) -> Result<Journal, AllocError>
@@ -68,6 +81,23 @@ impl Journal {
             made,
             deleted,
             groups,
+        })
+    }
+
+    /// The same journal again, in memory of its own.
+    #[tactic(auto, using(crate::proofs::Copied::copied_counted))]
+    pub fn copied(&self) -> Result<Journal, AllocError>
+        ensures { IfOk result (λ journal. journal ≡ self.now) }
+    {
+        let room = self.entries.capacity();
+        Ok(Journal {
+            layout: self.layout,
+            entries: entries_copied(*self.entries.allocator(), &self.entries, room)?,
+            clock: self.clock,
+            made_count: self.made_count,
+            made: self.made.copied()?,
+            deleted: self.deleted.copied()?,
+            groups: self.groups.copied()?,
         })
     }
 

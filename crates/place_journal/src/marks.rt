@@ -39,6 +39,17 @@ impl PortMarks {
         Ok(PortMarks { layout, flags })
     }
 
+    /// The same marks again, in memory of their own.
+    pub(crate) fn copied(&self) -> Result<PortMarks, AllocError>
+        ensures { IfOk result (λ marks. marks ≡ self.now) }
+    {
+        let flags = Vec::from_slice(*self.flags.allocator(), &self.flags)?;
+        Ok(PortMarks {
+            layout: self.layout,
+            flags,
+        })
+    }
+
     /// Marks a port that the layout can make. Takes no memory.
     pub(crate) fn mark(&mut self, ui: Ui)
         requires { IsTrue (names_port self.old.layout ui) }

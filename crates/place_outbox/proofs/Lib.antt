@@ -4,3 +4,4 @@ pub mod Places
 pub mod Whole
 pub mod Fronts
 pub mod Outboxes
+pub mod Copied

@@ -38,6 +38,30 @@ impl Model for Outbox {
     ghost invariant = { λ o. IsOutbox o.fronts.items o.pool o.back };
 }
 
+/// The packets that were put back again, in memory of their own.
+fn fronts_copied(
+    alloc: Global,
+    fronts: &[Option<Packet>],
+) -> Result<Vec<Option<Packet>>, AllocError>
+    ensures { IfOk result (λ copies. copies.items ≡ fronts.now) }
+{
+    let mut copies = Vec::with_capacity(alloc, fronts.len())?;
+    for front in fronts {
+        copies.push_reserved(front_copied(front)?);
+    }
+    Ok(copies)
+}
+
+/// The packet that was put back for a place again, in memory of its own.
+fn front_copied(front: &Option<Packet>) -> Result<Option<Packet>, AllocError>
+    ensures { IfOk result (λ copy. copy ≡ front.now) }
+{
+    match front {
+        Some(packet) => Ok(Some(packet.copied()?)),
+        None => Ok(None),
+    }
+}
+
 impl Outbox {
     /// Nothing waits for any place from 0 to `places`, and there is room for no packet.
     pub fn with_places(alloc: Global, places: u16) -> Result<Outbox, AllocError>
@@ -52,6 +76,20 @@ impl Outbox {
             fronts,
             back: 0,
             pool: Pool::with_places(alloc, places)?,
+        })
+    }
+
+    /// The same packets again, in memory of their own; the room may differ.
+    #[tactic(auto, using(crate::proofs::Copied::copied_outbox))]
+    pub fn copied(&self) -> Result<Outbox, AllocError>
+        ensures lists { IfOk result (λ outbox. outbox.lists ≡ self.now.lists) }
+        ensures puts { IfOk result (λ outbox. outbox.puts ≡ self.now.puts) }
+        ensures free { IfOk result (λ outbox. outbox.free ≡ self.now.free) }
+    {
+        Ok(Outbox {
+            fronts: fronts_copied(*self.fronts.allocator(), &self.fronts)?,
+            back: self.back,
+            pool: self.pool.copied()?,
         })
     }
 

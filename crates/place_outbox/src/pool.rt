@@ -18,6 +18,19 @@ pub(crate) struct Node {
     pub(crate) next: usize,
 }
 
+impl Clone for Node {
+    ghost use Rattle.std.specs.Prelude.{◌≡◌};
+
+    ghost is_clone = { λ x y. y ≡ x };
+
+    fn clone(&self) -> Result<Node, AllocError> {
+        Ok(Node {
+            packet: self.packet.copied()?,
+            next: self.next,
+        })
+    }
+}
+
 /// The packets that wait for a place: the keys of the first and the last one, of no meaning where none waits, and how many
 /// there are.
 #[derive(Clone, Copy)]
@@ -71,6 +84,20 @@ impl Pool {
             chains,
             puts: 0,
             waiting: 0,
+        })
+    }
+
+    /// The same pool again, in memory of its own; the room may differ.
+    #[tactic(auto, using(crate::proofs::Copied::copied_pool, crate::proofs::Copied::copied_lists))]
+    pub(crate) fn copied(&self) -> Result<Pool, AllocError>
+        ensures lists { IfOk result (λ pool. pool.lists ≡ self.now.lists) }
+        ensures puts { IfOk result (λ pool. pool.puts ≡ self.now.puts) }
+    {
+        Ok(Pool {
+            nodes: self.nodes.clone()?,
+            chains: Vec::from_slice(*self.chains.allocator(), &self.chains)?,
+            puts: self.puts,
+            waiting: self.waiting,
         })
     }
 

@@ -39,6 +39,21 @@ impl Line {
         Ok(Line { tried: None, waits })
     }
 
+    /// The same line again, in memory of its own.
+    fn copied(&self) -> Result<Line, AllocError>
+        ensures { IfOk result (λ line. line ≡ self.now) }
+    {
+        let room = self.waits.capacity();
+        let mut waits = VecDeque::with_capacity(*self.waits.allocator(), room)?;
+        for at in 0..self.waits.len() {
+            waits.push_back_reserved(self.waits[at].copied()?);
+        }
+        Ok(Line {
+            tried: self.tried,
+            waits,
+        })
+    }
+
     /// Takes room for one waiting message more in this line, where there is none.
     pub(crate) fn reserve(&mut self) -> Result<(), AllocError>
         ensures queue { self.new.queue ≡ self.old.queue }
@@ -117,5 +132,15 @@ impl Line {
         ensures { self.new ≡ record self.old { queue = at to self.old.queue } }
     {
         self.tried = to;
+    }
+}
+
+impl Clone for Line {
+    ghost use Rattle.std.specs.Prelude.{◌≡◌};
+
+    ghost is_clone = { λ x y. y ≡ x };
+
+    fn clone(&self) -> Result<Line, AllocError> {
+        self.copied()
     }
 }

@@ -1,6 +1,6 @@
 //! What a place may still hear of its posts to groups of other places.
 
-ghost use Rattle.std.specs.Prelude.{◌≡◌, ◌<◌, ◌≤◌, ℕ, true, false, length, slice_index_or, slice_set, OnOk, OnErr};
+ghost use Rattle.std.specs.Prelude.{◌≡◌, ◌<◌, ◌≤◌, ℕ, true, false, length, slice_index_or, slice_set, IfOk, OnOk, OnErr};
 ghost use Rattle.std.specs.Option.{option_copied};
 ghost use Rattle.chorus_entry.specs.declared.id.MsgId.{MsgId};
 ghost use Rattle.chorus_ui.specs.declared.limits.TheConstants.{MEMBERS_LIMIT};
@@ -26,6 +26,16 @@ pub(crate) struct Post {
 #[derive(Drop)]
 pub(crate) struct Copies {
     pub(crate) open: [bool; COPIES],
+}
+
+impl Clone for Copies {
+    ghost use Rattle.std.specs.Prelude.{◌≡◌};
+
+    ghost is_clone = { λ x y. y ≡ x };
+
+    fn clone(&self) -> Result<Copies, AllocError> {
+        Ok(Copies { open: self.open })
+    }
 }
 
 /// Which messages a place may still hear of: the post itself and each copy of a post that it asked another place to choose
@@ -90,6 +100,15 @@ impl Unheard {
         Unheard {
             posts: HashMap::new(alloc),
         }
+    }
+
+    /// The same posts again, in memory of their own.
+    pub fn copied(&self) -> Result<Unheard, AllocError>
+        ensures { IfOk result (λ unheard. unheard ≡ self.now) }
+    {
+        Ok(Unheard {
+            posts: self.posts.clone()?,
+        })
     }
 
     /// Notes a post that another place is asked to choose for: of itself and of each copy the place may hear. An error changes

@@ -1,6 +1,6 @@
 //! The messages that wait, by port and route.
 
-ghost use Rattle.std.specs.Prelude.{◌≡◌, ◌^◌, ◌<◌, ◌≤◌, false, length, slice_get, OnOk};
+ghost use Rattle.std.specs.Prelude.{◌≡◌, ◌^◌, ◌<◌, ◌≤◌, false, length, slice_get, IfOk, OnOk};
 ghost use Rattle.std.specs.Option.{option_copied};
 ghost use Rattle.place_unsettled.specs.declared.wait.Key.{Key};
 ghost use Rattle.place_unsettled.specs.Queues.{queue, room, empty_queue, is_free, first_under_way, same_key, key_at, changed, with_last, passed, at, less_one};
@@ -38,6 +38,16 @@ impl Waits {
             lines: BTreeMap::new(alloc),
             alloc,
         }
+    }
+
+    /// The same queues again, in memory of their own.
+    pub fn copied(&self) -> Result<Waits, AllocError>
+        ensures { IfOk result (λ waits. waits ≡ self.now) }
+    {
+        Ok(Waits {
+            lines: self.lines.clone()?,
+            alloc: self.alloc,
+        })
     }
 
     /// How many messages wait for this port and route.

@@ -33,6 +33,18 @@ impl ClientTable {
         Ok(ClientTable { entries })
     }
 
+    /// The same clients of a port's record again, in memory of their own.
+    pub(crate) fn copied(&self) -> Result<ClientTable, AllocError>
+        ensures { IfOk result (λ table. table ≡ self.now) }
+    {
+        let alloc = *self.entries.allocator();
+        let mut entries = Vec::with_capacity(alloc, CLIENTS_LIMIT)?;
+        for entry in &self.entries {
+            entries.push_reserved(*entry);
+        }
+        Ok(ClientTable { entries })
+    }
+
     /// How many clients a port's record remembers.
     pub fn len(&self) -> usize
         ensures len { result ≡ length self.now }

@@ -37,6 +37,19 @@ impl Pending {
         Ok(Pending { messages })
     }
 
+    /// The same queue of a port's record again, in memory of its own.
+    pub(crate) fn copied(&self) -> Result<Pending, AllocError>
+        ensures { IfOk result (λ pending. pending ≡ self.now) }
+    {
+        let alloc = *self.messages.allocator();
+        let mut messages = VecDeque::with_capacity(alloc, PENDING_LIMIT)?;
+        for at in 0..self.messages.len() {
+            let message = &self.messages[at];
+            messages.push_back_reserved(message.copied(message.id.copy)?);
+        }
+        Ok(Pending { messages })
+    }
+
     /// How many messages wait in the queue of a port's record.
     pub fn len(&self) -> usize
         ensures len { result ≡ length self.now }
