@@ -110,9 +110,10 @@ module _ (t : Turn) (h : IsTurnWithin t) where
       let three = and_parts (has_site t.place.layout actor.site && nat_le 1 actor.number) (nat_le actor.number 8) f in
       let to = standing-within t.place.layout actor.site q h.place.layout (and_parts (has_site t.place.layout actor.site) (nat_le 1 actor.number) three.0).0 in
       (to, (and_parts (is_port q) (is_actor actor) m).1, omega (arith, one, two))
-  own-within (Joins g q e f r) m b k =
-      ((and_parts (name_kind.is_group g) (is_port q) m).1,
-      λ f s. subst (λ z. length (members z t.place.journal) < 32) (from_same_ui g f s) (grind (arith, nat_tests, r)))
+  own-within (Joins g q e f r) m b k = (
+    (and_parts (name_kind.is_group g) (is_port q) m).1,
+    λ f s. subst (λ z. length (members z t.place.journal) < 32) (from_same_ui g f s) (grind (arith, nat_tests, r)),
+  )
   own-within _ m b k = tt
 
   -- What follows from it.

@@ -5,7 +5,7 @@ use Rattle.chorus_ui.specs.declared.kind.Kind.TheVariants as kinds
 use Rattle.chorus_entry.specs.declared.dest.Dest.{Dest}
 use Rattle.chorus_entry.specs.declared.command.Command.{Command}
 use Rattle.law_network.specs.Network.{NetState, Event, Enter, Act, Deliver, happened, schedule}
-use Rattle.law_ending.specs.Rank.{rank}
+use Rattle.law_network.specs.Rank.{rank}
 use Rattle.law_ending.specs.Rounds.{worked}
 
 -- by site and number

@@ -1,9 +1,4 @@
-mod Weights
-mod Working
-mod Told
-mod Delivering
 mod Keys
-mod Bounds
 mod Merging
 mod Lowering
 mod Rounds

@@ -19,13 +19,11 @@ use Rattle.law_network.specs.History.{history}
 use Rattle.law_network.specs.Left.{merged_past}
 use Rattle.law_network.proofs.Events.InOrder.{in-order}
 use Rattle.law_network.proofs.Merge.Journals.{merge-is}
-use Rattle.law_network.proofs.Draining.Mass.{is_among, key_of, with_key, keys}
-use Rattle.law_network.proofs.Draining.Masses.{AreApart}
+use Rattle.law_network.proofs.Draining.Weights.{AreApart}
 use Rattle.law_network.proofs.Draining.Routes.{keys-apart}
-use Rattle.law_ending.specs.Rank.{Bounds, waits_rank, places_rank, moves, joining, joined, sum_rank, most_rank, bounds, rank_by, rank}
-use Rattle.law_ending.proofs.Weights.{whole, idle-off, idle-on}
-use Rattle.law_ending.proofs.Bounds.{sum-append, most-append, bounds-same}
-use Rattle.law_ending.proofs.Keys.{keys-same}
+use Rattle.law_network.specs.Rank.{is_among, key_of, with_key, keys, Bounds, waits_rank, places_rank, moves, joining, joined, sum_rank, most_rank, bounds, rank_by, rank}
+use Rattle.law_network.proofs.Draining.Weights.{whole, idle-off, idle-on}
+use Rattle.law_network.proofs.Draining.Bounds.{sum-append, most-append, bounds-same}
 
 -- What bounds it.
 
@@ -106,13 +104,9 @@ among-any k (e ∷ past) = go (key_of e.act) (among-any k past)
     there j ks true h same = subst (λ i. is_among i ks ≡ true) (sym (same_key-is k j same)) h
     there j ks false h same = refl
 
-    new : (c b : Bool) → cond c true b ≡ (c || b)
-    new true b = refl
-    new false b = refl
-
     with : (j : Key) (ks : List Key) (b : Bool) → is_among j ks ≡ b → is_among k (cond b ks (j ∷ ks)) ≡ (same_key k j || is_among k ks)
     with j ks true h = there j ks (same_key k j) h refl
-    with j ks false h = new (same_key k j) (is_among k ks)
+    with j ks false h = refl
 
     go : (o : Option Key) → is_among k (keys past) ≡ any_key k past → is_among k (with_key o (keys past)) ≡ (is_key k o || any_key k past)
     go None ih = ih
@@ -141,12 +135,12 @@ waits-less b [] js apart other some queues = omega arith
 waits-less b (k ∷ ks) js apart other some queues =
     let without : Key → Queue = changed k (λ q. empty_queue) queues in
     let mine = idle-off b k (λ q. empty_queue) queues ks apart.0 in
-    let all = idle-on b k (λ q. empty_queue) queues js other (some k (ap (λ c. cond c true (is_among k ks)) (same_key-refl k))) in
+    let all = idle-on b k (λ q. empty_queue) queues js other (some k (ap (λ c. c || is_among k ks) (same_key-refl k))) in
     let none = zero-mul (whole b k) in
     let rest = waits-less b ks js apart.1 other (λ i h. some i (more (same_key i k) (is_among i ks) h)) without in
     omega (arith, mine, all, none, rest)
   where
-    more : (b c : Bool) → c ≡ true → cond b true c ≡ true
+    more : (b c : Bool) → c ≡ true → (b || c) ≡ true
     more true c h = refl
     more false c h = h
 
@@ -168,5 +162,4 @@ rank-is l es shape may =
     let past = history l es in
     let merged : merged_past n ≡ sort past = merge-is n past (in-order l es shape may).0 in
     let places = places-sort (bounds past) past n.places in
-    ap (λ ks. rank_by (bounds (merged_past n)) ks n) (keys-same (merged_past n))
-    ∙ ap (λ p. rank_by (bounds p) (keys p) n) merged ∙ ap (λ b. rank_by b (keys (sort past)) n) (bounds-sort past) ∙ omega (arith, places)
+    ap (λ p. rank_by (bounds p) (keys p) n) merged ∙ ap (λ b. rank_by b (keys (sort past)) n) (bounds-sort past) ∙ omega (arith, places)

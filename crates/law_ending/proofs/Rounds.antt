@@ -21,7 +21,7 @@ use Rattle.law_network.proofs.Holdings.Passing.{packets-lie-between}
 use Rattle.law_network.proofs.Promises.Promised.{quiet-at}
 use Rattle.law_network.proofs.Draining.Drains.{after-append, idle-event, layout-stays, round-deliveries, rounds-last}
 use Rattle.law_network.proofs.Draining.Ending.{caller-actor, rounds-may}
-use Rattle.law_ending.specs.Rank.{rank}
+use Rattle.law_network.specs.Rank.{rank}
 use Rattle.law_ending.specs.Rounds.{gives_none, give_none, works, worked, delivers, one_delivers, IsRound, HaveRounds}
 use Rattle.law_ending.specs.Endings.{RoundsWork, RoundsEnd, RoundsAreMade, DrainsTakeFew}
 use Rattle.law_ending.proofs.Keys.{no-packet-left}

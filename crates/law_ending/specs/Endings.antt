@@ -7,7 +7,7 @@ use Rattle.law_network.specs.Network.{NetState, Event, after, schedule, rounds, 
 use Rattle.law_network.specs.Schedules.{may_be, OfSchedules}
 use Rattle.law_network.specs.Left.{packets_left, merged_past}
 use Rattle.law_network.specs.Quiet.{IsQuiet}
-use Rattle.law_ending.specs.Rank.{rank}
+use Rattle.law_network.specs.Rank.{rank}
 use Rattle.law_ending.specs.Rounds.{give_none, worked, IsRound, HaveRounds}
 
 -- all events that may come behind any schedule, and give no command, have the property

@@ -1,3 +1,2 @@
-pub mod Rank
 pub mod Rounds
 pub mod Endings

@@ -1,2 +1,3 @@
 pub mod OwnIsAnswer
 pub mod Performing
+pub mod Owning

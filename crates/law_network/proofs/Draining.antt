@@ -1,5 +1,4 @@
-pub mod Mass
-pub mod Masses
+pub mod Weights
 pub mod Working
 pub mod Lowering
 pub mod Routes

@@ -17,3 +17,4 @@ pub mod Merging
 pub mod EachMessage
 pub mod Fates
 pub mod ByPlace
+pub mod Rank

@@ -1,5 +1,5 @@
 -- The law between the merge of journals and the world: the merge is the past sorted by clock and place, the oldest
--- entry first. A past has its newest entry first, a journal its oldest.
+-- entry first (a linearization of happens-before). A past has its newest entry first, a journal its oldest.
 use Rattle.std.specs.Prelude.{ℕ, ◌≡◌, List, reverse}
 use Rattle.std.specs.List.{All, filter}
 use Rattle.chorus_entry.specs.declared.entry.Entry.{Entry}

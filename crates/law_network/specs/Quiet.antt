@@ -1,4 +1,4 @@
--- Nothing is left to be done.
+-- Nothing is left to be done (quiescence).
 -- l is a layout, p the number of a place, q a port, x an id, d a destination. A past has its newest entry first.
 use Rattle.std.specs.Prelude.{ℕ, ◌≡◌, ◌≢◌, Bool, false, List, [], Option, Some, None}
 use Rattle.chorus_ui.specs.declared.ui.Ui.{Ui}

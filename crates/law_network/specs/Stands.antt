@@ -1,5 +1,5 @@
 -- What a network stands for: a past, the list of the entries of all places in the order of the schedule, the newest
--- first. Each part of the network is a view of it.
+-- first. Each part of the network is a view of it (the abstraction relation of a forward simulation).
 -- n is a network, l a layout, p, a and b are numbers of places, s is a place, q a port, g a group, k a port and route,
 -- x an id.
 use Rattle.std.specs.Prelude.{ℕ, ◌≡◌, ◌≤◌, true, List, [], map, Option, Some, None, slice_get}

@@ -6,7 +6,7 @@ use Rattle.std.proofs.lemmas.List.{reverse-reverse}
 use Rattle.std.proofs.lemmas.List.Elements.{All-nil, All-cons, All-head}
 use Rattle.chorus_ui.specs.declared.layout.Layout.{Layout}
 use Rattle.chorus_ui.specs.Layout as layout
-use Rattle.chorus_ui.specs.Layout.{IsLayout, has_place}
+use Rattle.chorus_ui.specs.Layout.{has_place}
 use Rattle.chorus_merge.proofs.Places.{All-append_parts}
 use Rattle.law_machine.specs.declared.outgoing.Outgoing.{Outgoing}
 use Rattle.law_network.specs.Packets.{is_link, first_on}

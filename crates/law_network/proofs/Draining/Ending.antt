@@ -9,7 +9,6 @@ use Rattle.chorus_ui.specs.Layout as layout
 use Rattle.chorus_ui.specs.Layout.{IsLayout, has_place}
 use Rattle.chorus_entry.specs.declared.entry.Entry.{Entry}
 use Rattle.chorus_entry.specs.declared.packet.Packet.{Packet}
-use Rattle.chorus_entry.specs.Act.{is_command_entry}
 use Rattle.chorus_world.specs.Steps.{is_legal}
 use Rattle.chorus_world.proofs.Sorted.Holders.{run_is_legal}
 use Rattle.chorus_calls.specs.Callers.{Seated}
@@ -24,43 +23,32 @@ use Rattle.law_network.proofs.Events.InOrder.{in-order}
 use Rattle.law_network.specs.Tasks.{Do, Drain, IsDrain, TasksCarriedOut}
 use Rattle.place_unsettled.specs.declared.wait.Key.{Key}
 use Rattle.law_network.proofs.Standing.Turning.{stands-there}
-use Rattle.law_network.proofs.Draining.Mass.{mass, keys}
+use Rattle.law_network.specs.Rank.{Bounds, bounds, keys, rank_by}
 use Rattle.law_network.proofs.Draining.Routes.{keys-apart, keys-follow}
 use Rattle.law_network.proofs.Merge.Parts.{All-reverse}
 use Rattle.law_network.proofs.Events.Said.{said_on, said_at, work-goes, said-work}
 use Rattle.law_network.proofs.Commands.Performing.{actor_in, some-actor, delivered-actors}
 use Rattle.law_network.proofs.Draining.Drains.{after-append, rounds-last}
 use Rattle.law_network.proofs.Draining.Lowering.{delivery-lower}
-use Rattle.law_network.proofs.Draining.Fronts.{packet-front}
-use Rattle.law_network.proofs.Draining.Bounds.{commands, place-within}
+use Rattle.law_network.proofs.Draining.Fronts.{packet-told}
+use Rattle.law_network.proofs.Draining.Bounds.{place-within, bounds-follow}
 
--- Deliveries answer no command.
+-- A delivery's entries answer no command, so what bounds the rank stays.
 
-commands-follow : (es past : List Entry) → All (λ (e : Entry). is_command_entry e.act ≡ false) es → commands (es ++ past) ≡ commands past
-commands-follow [] past h = refl
-commands-follow (e ∷ es) past h =
-    let P : Entry → Type 0 = λ (f : Entry). is_command_entry f.act ≡ false in
-    ap (λ b. cond b (suc (commands (es ++ past))) (commands (es ++ past))) (All-head P e es h) ∙ commands-follow es past (All-tail P e es h)
+pub record Stay (past newer : List Entry) : Type 0 where
+  pub same_bounds : bounds (newer ++ past) ≡ bounds past
+  pub same_keys : keys (newer ++ past) ≡ keys past
 
-commands-at : (x y : ℕ) (o : Option Seated) (n : NetState) (past : List Entry) → commands (said_at x y o n ++ past) ≡ commands past
-commands-at x y None n past = refl
-commands-at x y (Some caller) n past = go (first_on x y n.packets)
+pub stay-at : (x y : ℕ) (o : Option Seated) (n : NetState) (past : List Entry) → Stay past (said_at x y o n)
+stay-at x y None n past = record { same_bounds = refl; same_keys = refl }
+stay-at x y (Some caller) n past = go (first_on x y n.packets)
   where
-    go : (o : Option Packet) → commands (said_on y caller o n ++ past) ≡ commands past
-    go None = refl
+    go : (o : Option Packet) → Stay past (said_on y caller o n)
+    go None = record { same_bounds = refl; same_keys = refl }
     go (Some q) =
         let t = begun_by (place y n) caller q in
-        ap (λ es. commands (es ++ past)) (said-work q t) ∙ commands-follow (work-goes q t).newer past (work-goes q t).follow
-
-keys-at : (x y : ℕ) (o : Option Seated) (n : NetState) (past : List Entry) → keys (said_at x y o n ++ past) ≡ keys past
-keys-at x y None n past = refl
-keys-at x y (Some caller) n past = go (first_on x y n.packets)
-  where
-    go : (o : Option Packet) → keys (said_on y caller o n ++ past) ≡ keys past
-    go None = refl
-    go (Some q) =
-        let t = begun_by (place y n) caller q in
-        ap (λ es. keys (es ++ past)) (said-work q t) ∙ keys-follow (work-goes q t).newer past (work-goes q t).follow
+        let g = work-goes q t in
+        subst (Stay past) (sym (said-work q t)) (record { same_bounds = bounds-follow g.newer past g.follow; same_keys = keys-follow g.newer past g.follow })
 
 -- a delivery of the seat k between two places of the layout
 pub record IsBetween (l : Layout) (k : ℕ) (e : Event) : Type 0 where
@@ -127,9 +115,9 @@ module _ (l : Layout) (shape : IsLayout l) (k : ℕ) where
         delivered-actors k b.from b.to m (slice_get m.callers k) k refl ∙ rest.1,
       )
 
-  -- one delivery
-  event-lower : (es : List Event) (x y : ℕ) → may_be l es ≡ true → has_place l y ≡ true → mass (suc (commands (history l es))) (keys (history l es)) (schedule l (Deliver k x y ∷ es)) + serves (Deliver k x y) (schedule l es) ≤ mass (suc (commands (history l es))) (keys (history l es)) (schedule l es)
-  event-lower es x y may has = by-caller (slice_get (schedule l es).callers k)
+  -- one delivery, by what bounds the rank before it
+  pub deliver-lower : (es : List Event) (x y : ℕ) → may_be l es ≡ true → has_place l y ≡ true → rank_by (bounds (history l es)) (keys (history l es)) (schedule l (Deliver k x y ∷ es)) + serves (Deliver k x y) (schedule l es) ≤ rank_by (bounds (history l es)) (keys (history l es)) (schedule l es)
+  deliver-lower es x y may has = by-caller (slice_get (schedule l es).callers k)
     where
       n : NetState
       n = schedule l es
@@ -143,53 +131,53 @@ module _ (l : Layout) (shape : IsLayout l) (k : ℕ) where
       legal : is_legal (schedule l es).layout (history l es) ≡ true
       legal = run_is_legal (schedule l es).layout (actor_of (schedule l es)) (history l es) s.run
 
-      by-packet : (caller : Seated) (o : Option Packet) → first_on x y (schedule l es).packets ≡ o → mass (suc (commands (history l es))) (keys (history l es)) (works_off k x y caller o (schedule l es)) + one_if (is_some o) ≤ mass (suc (commands (history l es))) (keys (history l es)) (schedule l es)
+      by-packet : (caller : Seated) (o : Option Packet) → first_on x y (schedule l es).packets ≡ o → rank_by (bounds (history l es)) (keys (history l es)) (works_off k x y caller o (schedule l es)) + one_if (is_some o) ≤ rank_by (bounds (history l es)) (keys (history l es)) (schedule l es)
       by-packet caller None e = omega arith
       by-packet caller (Some q) e =
-          delivery-lower (suc (commands (history l es))) (keys (history l es)) (keys-apart (history l es)) k x y caller q (schedule l es) e
+          delivery-lower (bounds (history l es)) (keys (history l es)) (keys-apart (history l es)) k x y caller q (schedule l es) e
           (stands-there (schedule l es) y s.places (ap (λ (z : Layout). has_place z y) (schedule-keeps l es).layout ∙ has))
-          (place-within (schedule l es) (history l es) y shape_n legal s) (packet-front (schedule l es) (history l es) shape_n s x y q e)
+          (place-within (schedule l es) (history l es) y shape_n legal s) (packet-told (schedule l es) (history l es) shape_n s x y q e)
 
-      by-caller : (o : Option Seated) → mass (suc (commands (history l es))) (keys (history l es)) (delivered k x y o (schedule l es)) + one_if (is_some o && is_some (first_on x y (schedule l es).packets)) ≤ mass (suc (commands (history l es))) (keys (history l es)) (schedule l es)
+      by-caller : (o : Option Seated) → rank_by (bounds (history l es)) (keys (history l es)) (delivered k x y o (schedule l es)) + one_if (is_some o && is_some (first_on x y (schedule l es).packets)) ≤ rank_by (bounds (history l es)) (keys (history l es)) (schedule l es)
       by-caller None = omega arith
       by-caller (Some caller) = by-packet caller (first_on x y (schedule l es).packets) refl
 
-  -- the commands and the ports and routes of the history are these
-  abbrev Counts : ℕ → List Key → List Event → Type 0
-  Counts c ks es = (commands (history l es) ≡ c) × (keys (history l es) ≡ ks)
+  -- what bounds the rank, and the ports and routes of the history, are these
+  abbrev Stays : Bounds → List Key → List Event → Type 0
+  Stays w ks es = (bounds (history l es) ≡ w) × (keys (history l es) ≡ ks)
 
   -- and a list of them
-  all-lower : (c : ℕ) (ks : List Key) (ds es : List Event) (a : Ui) → All (IsBetween l k) ds → may_be l es ≡ true → actor_of (schedule l es) k ≡ Some a → Counts c ks es → (mass (suc c) ks (schedule l (ds ++ es)) + served ds (schedule l es) ≤ mass (suc c) ks (schedule l es)) × Counts c ks (ds ++ es)
-  all-lower c ks [] es a h may who count = (omega arith, count)
-  all-lower c ks (d ∷ ds) es a h may who count =
-      let rest = all-lower c ks ds es a (All-tail (IsBetween l k) d ds h) may who count in
+  all-lower : (w : Bounds) (ks : List Key) (ds es : List Event) (a : Ui) → All (IsBetween l k) ds → may_be l es ≡ true → actor_of (schedule l es) k ≡ Some a → Stays w ks es → (rank_by w ks (schedule l (ds ++ es)) + served ds (schedule l es) ≤ rank_by w ks (schedule l es)) × Stays w ks (ds ++ es)
+  all-lower w ks [] es a h may who count = (omega arith, count)
+  all-lower w ks (d ∷ ds) es a h may who count =
+      let rest = all-lower w ks ds es a (All-tail (IsBetween l k) d ds h) may who count in
       let b = All-head (IsBetween l k) d ds h in
       let more = between-may ds es a (All-tail (IsBetween l k) d ds h) may who in
       let now : schedule l (ds ++ es) ≡ after ds (schedule l es) = after-append ds es (opening l) in
-      let one = event-lower (ds ++ es) b.from b.to more.0 b.has_to in
-      let lower = subst (λ js. mass (suc c) js (schedule l (Deliver k b.from b.to ∷ ds ++ es)) + serves (Deliver k b.from b.to) (schedule l (ds ++ es)) ≤ mass (suc c) js (schedule l (ds ++ es))) rest.1.1
-      (subst (λ i. mass (suc i) (keys (history l (ds ++ es))) (schedule l (Deliver k b.from b.to ∷ ds ++ es)) + serves (Deliver k b.from b.to) (schedule l (ds ++ es)) ≤ mass (suc i) (keys (history l (ds ++ es))) (schedule l (ds ++ es))) rest.1.0 one) in
+      let one = deliver-lower (ds ++ es) b.from b.to more.0 b.has_to in
+      let lower = subst (λ js. rank_by w js (schedule l (Deliver k b.from b.to ∷ ds ++ es)) + serves (Deliver k b.from b.to) (schedule l (ds ++ es)) ≤ rank_by w js (schedule l (ds ++ es))) rest.1.1
+      (subst (λ i. rank_by i (keys (history l (ds ++ es))) (schedule l (Deliver k b.from b.to ∷ ds ++ es)) + serves (Deliver k b.from b.to) (schedule l (ds ++ es)) ≤ rank_by i (keys (history l (ds ++ es))) (schedule l (ds ++ es))) rest.1.0 one) in
       let same : serves (Deliver k b.from b.to) (schedule l (ds ++ es)) ≡ serves (Deliver k b.from b.to) (after ds (schedule l es)) = ap (serves (Deliver k b.from b.to)) now in
       let first = rest.0 in
       let n = schedule l (ds ++ es) in
-      subst (λ e. (mass (suc c) ks (schedule l (e ∷ ds ++ es)) + (serves e (after ds (schedule l es)) + served ds (schedule l es)) ≤ mass (suc c) ks (schedule l es)) × Counts c ks (e ∷ ds ++ es)) (sym b.is) (
+      subst (λ e. (rank_by w ks (schedule l (e ∷ ds ++ es)) + (serves e (after ds (schedule l es)) + served ds (schedule l es)) ≤ rank_by w ks (schedule l es)) × Stays w ks (e ∷ ds ++ es)) (sym b.is) (
         omega (arith, lower, first, same),
         (
-          commands-at b.from b.to (slice_get n.callers k) n (history l (ds ++ es)) ∙ rest.1.0,
-          keys-at b.from b.to (slice_get n.callers k) n (history l (ds ++ es)) ∙ rest.1.1,
+          (stay-at b.from b.to (slice_get n.callers k) n (history l (ds ++ es))).same_bounds ∙ rest.1.0,
+          (stay-at b.from b.to (slice_get n.callers k) n (history l (ds ++ es))).same_keys ∙ rest.1.1,
         ),
       )
 
   -- rounds, as long as one serves something
-  rounds-end : (fuel c : ℕ) (ks : List Key) (es : List Event) (a : Ui) → may_be l es ≡ true → actor_of (schedule l es) k ≡ Some a → Counts c ks es → mass (suc c) ks (schedule l es) ≤ fuel → (m : ℕ) × (served (round l k) (schedule l (rounds l k m ++ es)) ≡ 0)
-  rounds-end zero c ks es a may who count le =
-      (0, (let less = (all-lower c ks (round l k) es a (round-between l k) may who count).0 in omega (arith, less, le)))
-  rounds-end (suc fuel) c ks es a may who count le =
-      let lower = all-lower c ks (round l k) es a (round-between l k) may who count in
+  rounds-end : (fuel : ℕ) (w : Bounds) (ks : List Key) (es : List Event) (a : Ui) → may_be l es ≡ true → actor_of (schedule l es) k ≡ Some a → Stays w ks es → rank_by w ks (schedule l es) ≤ fuel → (m : ℕ) × (served (round l k) (schedule l (rounds l k m ++ es)) ≡ 0)
+  rounds-end zero w ks es a may who count le =
+      (0, (let less = (all-lower w ks (round l k) es a (round-between l k) may who count).0 in omega (arith, less, le)))
+  rounds-end (suc fuel) w ks es a may who count le =
+      let lower = all-lower w ks (round l k) es a (round-between l k) may who count in
       let more = between-may (round l k) es a (round-between l k) may who in
-      go (served (round l k) (schedule l es)) refl lower.0 (rounds-end fuel c ks (round l k ++ es) a more.0 more.1 lower.1)
+      go (served (round l k) (schedule l es)) refl lower.0 (rounds-end fuel w ks (round l k ++ es) a more.0 more.1 lower.1)
     where
-      go : (s : ℕ) → served (round l k) (schedule l es) ≡ s → mass (suc c) ks (schedule l (round l k ++ es)) + served (round l k) (schedule l es) ≤ mass (suc c) ks (schedule l es) → (mass (suc c) ks (schedule l (round l k ++ es)) ≤ fuel → (m : ℕ) × (served (round l k) (schedule l (rounds l k m ++ (round l k ++ es))) ≡ 0)) → (m : ℕ) × (served (round l k) (schedule l (rounds l k m ++ es)) ≡ 0)
+      go : (s : ℕ) → served (round l k) (schedule l es) ≡ s → rank_by w ks (schedule l (round l k ++ es)) + served (round l k) (schedule l es) ≤ rank_by w ks (schedule l es) → (rank_by w ks (schedule l (round l k ++ es)) ≤ fuel → (m : ℕ) × (served (round l k) (schedule l (rounds l k m ++ (round l k ++ es))) ≡ 0)) → (m : ℕ) × (served (round l k) (schedule l (rounds l k m ++ es)) ≡ 0)
       go zero e less ih = (0, e)
       go (suc s) e less ih =
           let rest = ih (omega (arith, e, less, le)) in
@@ -202,9 +190,9 @@ module _ (l : Layout) (shape : IsLayout l) (k : ℕ) where
   -- a drain by a caller ends
   pub drain-ends : (es : List Event) (a : Ui) → may_be l es ≡ true → actor_of (schedule l es) k ≡ Some a → (m : ℕ) × IsDrain l k es (rounds l k m ++ es)
   drain-ends es a may who =
-      let c = commands (history l es) in
+      let w = bounds (history l es) in
       let ks = keys (history l es) in
-      let e = rounds-end (mass (suc c) ks (schedule l es)) c ks es a may who (refl, refl) (omega arith) in
+      let e = rounds-end (rank_by w ks (schedule l es)) w ks es a may who (refl, refl) (omega arith) in
       (e.0, record { count = e.0; rounds = refl; dry = e.1 })
 
   -- and what it is may be, with the same callers

@@ -30,13 +30,14 @@ use Rattle.chorus_world.proofs.Messages.StageFacts.{StageFacts, keeps-stages}
 use Rattle.chorus_world.proofs.Messages.Firsts.{going_to, going-first, first-is-head}
 use Rattle.law_network.specs.Packets.{first_on}
 use Rattle.law_network.specs.Network.{NetState, place}
-use Rattle.law_network.specs.Records.{as_wait, sent_for, tried_at, queue_of}
+use Rattle.law_network.specs.Records.{home, home_from, as_wait, sent_for, tried_at, queue_of}
 use Rattle.law_network.specs.UnderWay.{carries, route_in, route}
 use Rattle.law_network.specs.Stands.{Stands, actor_of}
 use Rattle.law_network.proofs.Standing.InTurn.{ArePackets}
 use Rattle.law_network.proofs.Tables.Keys.{same_route-self}
 use Rattle.law_network.proofs.Links.UnderWays.{Seen, seen, SeesVerdict, sees-verdict}
-use Rattle.law_network.proofs.Draining.Working.{IsFrontFor}
+use Rattle.law_network.proofs.Standing.Turning.{number-is}
+use Rattle.law_network.proofs.Draining.Working.{IsToldFor}
 
 pub found-id : (x : MsgId) (ms : List Sent) (m : Sent) → find_sent x ms ≡ Some m → m.id ≡ x
 found-id x [] m h = absurd (let bad : None ≡ Some m = h in cc)
@@ -114,12 +115,17 @@ module _ (n : NetState) (past : List Entry) (shape : IsLayout n.layout) (s : Sta
         let tried : tried_at (progress (about (t.head).id past)) ≡ Some k.from = ap (λ z. tried_at (progress (about z past))) t.id ∙ ap tried_at t.stage in
         s.waiting b key ∙ ap (queue_of past) t.heads ∙ ap (λ o. record { tried = o; waits = as_wait past t.head ∷ map (as_wait past) t.rest }) tried
 
-    pub packet-front : IsFrontFor k.cargo (place b n)
-    packet-front = go k.cargo refl
+    -- and one that was posted directly was posted here
+    pub packet-told : IsToldFor k.cargo (place b n)
+    packet-told = go k.cargo refl
       where
-        go : (c : Cargo) → k.cargo ≡ c → IsFrontFor c (place b n)
+        go : (c : Cargo) → k.cargo ≡ c → IsToldFor c (place b n)
         go (cargos.Verdict x q r v) e =
             let t = is-told x q r v e in
-            record { from = k.from; message = as_wait past t.head; rest = map (as_wait past) t.rest; is = told-queue x q r v t }
+            let o = (legal_messages n.layout past legal-past x).origin b t.sender t.sent in
+            record {
+              front = record { from = k.from; message = as_wait past t.head; rest = map (as_wait past) t.rest; is = told-queue x q r v t };
+              own = λ none. ap (home past) t.id ∙ ap home_from o.posted ∙ o.place (t.way ∙ none) ∙ sym (number-is n.layout b n.places);
+            }
         go (cargos.Try m q r only h) e = tt
         go _ e = tt

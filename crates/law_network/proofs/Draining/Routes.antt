@@ -1,5 +1,5 @@
 -- The ports and routes for which messages may wait: each once, and all that a legal past sends for.
-use Rattle.std.proofs.Common.{ℕ, ◌≡◌, ◌+◌, Bool, true, false, not, cond, List, [], ◌∷◌, ◌++◌, Option, Some, None, refl, sym, ◌∙◌, ap, subst}
+use Rattle.std.proofs.Common.{ℕ, ◌≡◌, ◌+◌, Bool, true, false, not, cond, List, [], ◌∷◌, ◌++◌, Option, Some, None, refl, sym, ◌∙◌, ap, subst, ◌||◌}
 use Rattle.std.specs.List.{All, filter}
 use Rattle.std.proofs.lemmas.Bool.{false≢true, true≢false}
 use Rattle.std.proofs.lemmas.List.Elements.{All-nil, All-head, All-tail, All-push, All-weaker}
@@ -32,8 +32,8 @@ use Rattle.law_machine.specs.Choosing.{by_group}
 use Rattle.law_machine.specs.Doing.{direct}
 use Rattle.law_network.specs.Records.{is_for, sent_for}
 use Rattle.law_network.proofs.Tables.Keys.{key-of}
-use Rattle.law_network.proofs.Draining.Mass.{is_among, key_of, with_key, keys}
-use Rattle.law_network.proofs.Draining.Masses.{AreApart}
+use Rattle.law_network.specs.Rank.{is_among, key_of, with_key, keys}
+use Rattle.law_network.proofs.Draining.Weights.{AreApart}
 use Rattle.law_network.proofs.Draining.Working.{HasMember}
 
 among-more : (k : Key) (o : Option Key) (ks : List Key) → is_among k ks ≡ true → is_among k (with_key o ks) ≡ true
@@ -44,7 +44,7 @@ among-more k (Some j) ks h = go (is_among j ks) (same_key k j)
     go true c = h
     go false c = first (same_key k j)
       where
-        first : (d : Bool) → cond d true (is_among k ks) ≡ true
+        first : (d : Bool) → (d || is_among k ks) ≡ true
         first true = refl
         first false = h
 
@@ -53,7 +53,7 @@ among-new k ks = go (is_among k ks) refl
   where
     go : (b : Bool) → is_among k ks ≡ b → is_among k (cond b ks (k ∷ ks)) ≡ true
     go true e = e
-    go false e = ap (λ d. cond d true (is_among k ks)) (same_key-refl k)
+    go false e = ap (λ d. (d || is_among k ks)) (same_key-refl k)
 
 apart-more : (o : Option Key) (ks : List Key) → AreApart ks → AreApart (with_key o ks)
 apart-more None ks h = h

@@ -1,5 +1,5 @@
 -- What goes at a place makes no more work than it was.
-use Rattle.std.proofs.Common.{◌*◌, ℕ, suc, ◌≡◌, ◌≤◌, ◌+◌, ◌==◌, Bool, true, false, ◌&&◌, not, cond, List, [], ◌∷◌, ◌++◌, map, length, Option, Some, None, refl, sym, ◌∙◌, ap, subst, arith}
+use Rattle.std.proofs.Common.{◌*◌, ℕ, suc, ◌≡◌, ◌≤◌, ◌+◌, ◌==◌, Bool, true, false, ◌&&◌, not, cond, List, [], ◌∷◌, ◌++◌, map, length, Option, Some, None, refl, sym, ◌∙◌, ap, subst, arith, ◌||◌}
 use Rattle.std.proofs.Math.Nat.{suc-mul}
 use Rattle.std.proofs.lemmas.Bool.{false≢true, true≢false}
 use Rattle.chorus_entry.specs.declared.id.MsgId.{MsgId}
@@ -20,9 +20,7 @@ use Rattle.law_machine.specs.Deciding.{decision, records_after}
 use Rattle.law_machine.specs.Trying.{report, settles_here, tries_at, verdict_here, tries, goes_on, goes_unless, go}
 use Rattle.law_machine.proofs.Machine.Keys.{same_key-is}
 use Rattle.law_machine.proofs.Machine.Queues.{wait_for, settled-passes}
-use Rattle.law_network.proofs.Draining.Mass.{is_among}
-use Rattle.law_network.proofs.Draining.Masses.{AreApart}
-use Rattle.law_ending.specs.Rank.{Bounds, wait_rank, cargo_rank, packets_rank, still, waits_rank}
+use Rattle.law_network.specs.Rank.{is_among, Bounds, wait_rank, cargo_rank, packets_rank, still, waits_rank}
 
 -- Sums.
 
@@ -43,12 +41,17 @@ loads-packed b t (k ∷ ks) = ap (λ m. cargo_rank b k.1 + m) (loads-packed b t 
 abbrev pub whole : Bounds → Key → ℕ
 whole b k = wait_rank b.moved k
 
+-- the ports and routes, each once
+abbrev pub AreApart : List Key → Type 0
+AreApart [] = Unit {0}
+AreApart (k ∷ ks) = (is_among k ks ≡ false) × AreApart ks
+
 module _ (b : Bounds) where
   pub idle-off : (k : Key) (f : Queue → Queue) (queues : Key → Queue) (ks : List Key) → is_among k ks ≡ false → waits_rank b ks (changed k f queues) ≡ waits_rank b ks queues
   idle-off k f queues [] h = refl
   idle-off k f queues (j ∷ js) h = go (same_key k j) h (idle-off k f queues js)
     where
-      go : (c : Bool) → cond c true (is_among k js) ≡ false → (is_among k js ≡ false → waits_rank b js (changed k f queues) ≡ waits_rank b js queues) → still (cond c (f (queues k)) (queues j)) * whole b j + waits_rank b js (changed k f queues) ≡ still (queues j) * whole b j + waits_rank b js queues
+      go : (c : Bool) → (c || is_among k js) ≡ false → (is_among k js ≡ false → waits_rank b js (changed k f queues) ≡ waits_rank b js queues) → still (cond c (f (queues k)) (queues j)) * whole b j + waits_rank b js (changed k f queues) ≡ still (queues j) * whole b j + waits_rank b js queues
       go true e ih = absurd (true≢false e)
       go false e ih = ap (λ m. still (queues j) * whole b j + m) (ih e)
 
@@ -56,7 +59,7 @@ module _ (b : Bounds) where
   idle-on k f queues [] apart h = absurd (false≢true h)
   idle-on k f queues (j ∷ js) apart h = go (same_key k j) refl h (idle-on k f queues js apart.1)
     where
-      go : (c : Bool) → same_key k j ≡ c → cond c true (is_among k js) ≡ true → (is_among k js ≡ true → waits_rank b js (changed k f queues) + still (queues k) * whole b k ≡ waits_rank b js queues + still (f (queues k)) * whole b k) → still (cond c (f (queues k)) (queues j)) * whole b j + waits_rank b js (changed k f queues) + still (queues k) * whole b k ≡ still (queues j) * whole b j + waits_rank b js queues + still (f (queues k)) * whole b k
+      go : (c : Bool) → same_key k j ≡ c → (c || is_among k js) ≡ true → (is_among k js ≡ true → waits_rank b js (changed k f queues) + still (queues k) * whole b k ≡ waits_rank b js queues + still (f (queues k)) * whole b k) → still (cond c (f (queues k)) (queues j)) * whole b j + waits_rank b js (changed k f queues) + still (queues k) * whole b k ≡ still (queues j) * whole b j + waits_rank b js queues + still (f (queues k)) * whole b k
       go true e i ih =
           let same : k ≡ j = same_key-is k j e in
           let off : is_among k js ≡ false = subst (λ z. is_among z js ≡ false) (sym same) apart.0 in
