@@ -59,6 +59,7 @@ abbrev pub delete_from : Ui → Option PortState → Act
 delete_from q None = Act.NotHere q
 delete_from q (Some f) = Act.Delete q (drop f.taken f.accepted)
 
+-- the number of the port's next move, from 1 (its epoch)
 abbrev pub hops : Option PortState → ℕ
 hops None = 0
 hops (Some f) = length f.path

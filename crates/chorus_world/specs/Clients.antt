@@ -1,4 +1,4 @@
--- Clients: what a port remembers of the requests that it accepted, so that it accepts none twice.
+-- Clients: what a port remembers of the requests that it accepted, so that it accepts none twice (an at-most-once table).
 use Rattle.std.specs.Prelude.{ℕ, Bool, List, [], ◌∷◌}
 use Rattle.chorus_entry.specs.declared.entry.Entry.{Entry}
 use Rattle.chorus_entry.specs.declared.id.MsgId.{MsgId}

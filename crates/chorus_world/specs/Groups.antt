@@ -1,4 +1,5 @@
--- Groups: what the entries of a group's place say of it, and the members that a post chooses.
+-- Groups: what the entries of a group's place say of it, and the members that a post chooses: all (multicast), or one
+-- in turn (anycast, by round robin).
 use Rattle.std.specs.Prelude.{ℕ, ◌+◌, ◌==◌, Bool, false, ◌&&◌, ◌||◌, if◌then◌else◌, List, [], ◌∷◌, ◌++◌, find, Option, Some, None, unwrap_or, not}
 use Rattle.std.specs.List.{filter}
 use Rattle.chorus_ui.specs.declared.ui.Ui.{Ui}

@@ -1,4 +1,4 @@
--- The order in which a port accepts what one caller sends, said of one past.
+-- The order in which a port accepts what one caller sends (FIFO by route), said of one past.
 use Rattle.std.specs.Prelude.{ℕ, ◌≡◌, ◌<◌, List, Option, Some, None, slice_get}
 use Rattle.chorus_ui.specs.declared.ui.Ui.{Ui}
 use Rattle.chorus_entry.specs.declared.entry.Entry.{Entry}

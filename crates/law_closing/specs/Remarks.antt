@@ -1,4 +1,4 @@
--- The turns that entries with remarks tell: of a place, and of a pass.
+-- The turns that entries with remarks (ghost variables) tell: of a place, and of a pass.
 -- p is the number of a place, log are entries with remarks, the oldest first, made are entries with the places where
 -- they were made.
 use Rattle.std.specs.Prelude.{ℕ, ◌==◌, ◌+◌, Bool, List, [], ◌∷◌, map}
