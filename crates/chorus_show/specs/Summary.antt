@@ -131,6 +131,9 @@ other_lines entries =
     ++ count_line (codes "stale") (count is_stale entries)
     ++ count_line (codes "departs") (count is_depart entries)
 
+abbrev pub summary_lines : List Entry → List ℕ
+summary_lines entries =
+    codes "summary\n" ++ message_lines entries ++ discarded_line entries ++ other_lines entries
+
 abbrev pub summary_text : List Entry → List ℕ
-summary_text entries =
-    codes "summary\n" ++ message_lines entries ++ discarded_line entries ++ other_lines entries ++ codes "end\n"
+summary_text entries = summary_lines entries ++ codes "end\n"

@@ -18,6 +18,7 @@ mod phrases;
 mod pieces;
 mod queues;
 mod status;
+mod stuck;
 mod summary;
 
 pub use entries::push_entry;
@@ -27,4 +28,5 @@ pub use law::{a_line_has_one_entry, a_line_is_read_back};
 pub use pieces::{push_act, push_answer, push_id};
 pub use queues::Spot;
 pub use status::{Status, fault_text};
+pub use stuck::{Stuck, push_stuck};
 pub use summary::{lent_summary_text, summary_text};
