@@ -29,7 +29,7 @@ verb_of version text =
     else if bytes_eq text (codes "delete") then (if nat_le 2 version then Some verbs.Delete else None)
     else None
 
--- the word of a line; claim is one from version 3 on
+-- the word of a line; claim and await are from version 3 on
 unfoldable pub word_of : ℕ → List ℕ → Option Word
 word_of version text =
     if bytes_eq text (codes "chorus") then Some words.Chorus
@@ -44,6 +44,7 @@ word_of version text =
     else if bytes_eq text (codes "drain") then Some words.Drain
     else if bytes_eq text (codes "end") then Some words.End
     else if bytes_eq text (codes "claim") then (if nat_le 3 version then Some words.Claim else None)
+    else if bytes_eq text (codes "await") then (if nat_le 3 version then Some words.Await else None)
     else option_map words.Command (verb_of version text)
 
 -- the words that may stand where a text has come so far
@@ -57,6 +58,7 @@ may_stand sections.Setup words.Claim = true
 may_stand sections.Setup words.Schedule = true
 may_stand sections.Scripts words.Script = true
 may_stand sections.Scripts (words.Command verb) = true
+may_stand sections.Scripts words.Await = true
 may_stand sections.Scripts words.Claim = true
 may_stand sections.Scripts words.Schedule = true
 may_stand sections.Claims words.Claim = true

@@ -62,6 +62,8 @@ pub enum Word {
     Script,
     /// The word of a command.
     Command(Verb),
+    /// `await`: a command that waits for a message in a port, and receives it.
+    Await,
     /// `claim`: says what is to be checked.
     Claim,
     /// `schedule`: ends the scripts and the claims.
@@ -122,7 +124,8 @@ pub enum Reason {
     Schedule,
 }
 
-/// The word that a line begins with. None exactly where it is no word of the version; `claim` is one from version 3 on.
+/// The word that a line begins with. None exactly where it is no word of the version; `claim` and `await` are from version 3
+/// on.
 #[tactic(auto, unfolding(crate::specs::Words::word_of))]
 pub fn word_of(version: u8, text: &[u8]) -> Option<Word>
     ensures { result ≡ word_of version text.now }
@@ -152,6 +155,12 @@ pub fn word_of(version: u8, text: &[u8]) -> Option<Word>
     } else if text == b"claim".as_slice() {
         if version >= 3 {
             Some(Word::Claim)
+        } else {
+            None
+        }
+    } else if text == b"await".as_slice() {
+        if version >= 3 {
+            Some(Word::Await)
         } else {
             None
         }
@@ -217,7 +226,7 @@ pub fn may_stand(section: Section, word: Word) -> bool
         ),
         Section::Scripts => matches!(
             word,
-            Word::Script | Word::Command(_) | Word::Claim | Word::Schedule
+            Word::Script | Word::Command(_) | Word::Await | Word::Claim | Word::Schedule
         ),
         Section::Claims => matches!(word, Word::Claim | Word::Schedule),
         Section::Schedule => matches!(word, Word::Step | Word::Deliver | Word::Drain | Word::End),

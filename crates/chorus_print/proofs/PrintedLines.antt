@@ -3,7 +3,8 @@ use Rattle.std.proofs.Common.{◌≡◌, ℕ, ◌+◌, ◌<◌, ◌≤◌, List,
 use Rattle.std.specs.Prelude.{codes}
 use Rattle.std.specs.List.{flat_map}
 use Rattle.std.proofs.Math.Seq.{take-suc}
-use Rattle.std.proofs.lemmas.List.{append-nil, map_push}
+use Rattle.std.proofs.lemmas.List.{length-take-le}
+use Rattle.std.proofs.lemmas.List.{append-nil}
 use Rattle.std.proofs.lemmas.Grind.{common_steps, flat_map-append}
 use Rattle.chorus_ui.specs.declared.ui.Ui.{Ui}
 use Rattle.chorus_ui.specs.declared.layout.Layout.{Layout}
@@ -11,21 +12,26 @@ use Rattle.chorus_entry.specs.declared.command.Command.{Command}
 use Rattle.chorus_scene.specs.declared.scenario.SetupLine.{SetupLine}
 use Rattle.chorus_scene.specs.Scene.{Scene}
 use Rattle.chorus_scene.specs.Making.{makes, name_said, names_said}
-use Rattle.chorus_scene.specs.Print.{command_text, version_text, sites_text, said_text, setup_texts, said_texts, script_texts, claim_text, step_text, joined, printed, ended, all_ended}
+use Rattle.chorus_scene.proofs.Waits.{texts_push}
+use Rattle.chorus_scene.specs.Scene.{is_await}
+use Rattle.chorus_scene.specs.Print.{said_as, command_texts, version_text, sites_text, said_text, setup_texts, said_texts, script_texts, claim_text, step_text, joined, printed, ended, all_ended}
 
 -- a line more
 ended_more : (xs : List (List ℕ)) (y : List ℕ) → all_ended (xs ++ y ∷ []) ≡ all_ended xs ++ (y ++ 10 ∷ [])
 ended_more xs y = flat_map-append ended xs (y ∷ []) ∙ ap (λ t. all_ended xs ++ t) (append-nil (ended y))
 
-pub commands_on : (start out first : List ℕ) (xs : List Command) (i : ℕ) (x : Command) → i < length xs → x ≡ get_or xs i x → out ≡ start ++ all_ended (first ∷ map command_text (take i xs))
-    → (out ++ command_text x) ++ 10 ∷ [] ≡ start ++ all_ended (first ∷ map command_text (take (i + 1) xs))
-commands_on start out first xs i x lt is so_far =
+pub commands_on : (waits start out first : List ℕ) (xs : List Command) (i : ℕ) (x : Command) → i < length xs → x ≡ get_or xs i x → out ≡ start ++ all_ended (first ∷ command_texts waits 0 (take i xs))
+    → (out ++ said_as (is_await waits i) x) ++ 10 ∷ [] ≡ start ++ all_ended (first ∷ command_texts waits 0 (take (i + 1) xs))
+commands_on waits start out first xs i x lt is so_far =
+    let text = said_as (is_await waits i) x in
+    let at : 0 + length (take i xs) ≡ i = omega (arith, length-take-le i xs (omega (arith, lt))) in
     let more : take (i + 1) xs ≡ take i xs ++ x ∷ [] = rw (add-one i) (take-suc xs i x lt) ∙ ap (λ y. take i xs ++ y ∷ []) (sym is) in
-    let texts : map command_text (take (i + 1) xs) ≡ map command_text (take i xs) ++ command_text x ∷ [] = ap (map command_text) more ∙ map_push command_text (take i xs) x in
-    ap (λ o. (o ++ command_text x) ++ 10 ∷ []) so_far
-    ∙ append_assoc (start ++ all_ended (first ∷ map command_text (take i xs))) (command_text x) (10 ∷ [])
-    ∙ append_assoc start (all_ended (first ∷ map command_text (take i xs))) (command_text x ++ 10 ∷ [])
-    ∙ ap (λ t. start ++ t) (sym (ended_more (first ∷ map command_text (take i xs)) (command_text x)) ∙ ap (λ ts. all_ended (first ∷ ts)) (sym texts))
+    let texts : command_texts waits 0 (take (i + 1) xs) ≡ command_texts waits 0 (take i xs) ++ text ∷ [] = ap (command_texts waits 0) more ∙ texts_push waits waits 0 (take i xs) x (λ j k. refl)
+    ∙ ap (λ k. command_texts waits 0 (take i xs) ++ said_as (is_await waits k) x ∷ []) at in
+    ap (λ o. (o ++ text) ++ 10 ∷ []) so_far
+    ∙ append_assoc (start ++ all_ended (first ∷ command_texts waits 0 (take i xs))) text (10 ∷ [])
+    ∙ append_assoc start (all_ended (first ∷ command_texts waits 0 (take i xs))) (text ++ 10 ∷ [])
+    ∙ ap (λ t. start ++ t) (sym (ended_more (first ∷ command_texts waits 0 (take i xs)) text) ∙ ap (λ ts. all_ended (first ∷ ts)) (sym texts))
 
 pub setup_on : (out : List ℕ) (total : List ℕ) (names : List Ui) (lines : List SetupLine) (i : ℕ) (line : SetupLine) (n : Ui) → i < length names → i < length lines → line ≡ get_or lines i line → n ≡ get_or names i n
     → out ++ all_ended (said_texts (drop i names) (drop i lines)) ≡ total → ((out ++ said_text n line) ++ 10 ∷ []) ++ all_ended (said_texts (drop (i + 1) names) (drop (i + 1) lines)) ≡ total

@@ -4,7 +4,7 @@ ghost use Rattle.std.specs.Prelude.{◌≡◌, ◌<◌, ℕ, List, [], ◌∷◌
 ghost use Rattle.std.specs.List.{flat_map};
 ghost use Rattle.chorus_ui.specs.Text.{name_text};
 ghost use Rattle.chorus_lines.specs.Body.{hex_digit, hex_text, body_text};
-ghost use Rattle.chorus_scene.specs.Print.{behind, dest_text, command_text, version_text, sites_text, said_text, said_texts, script_texts, claim_text, step_text, all_ended, printed, IsReadAgain};
+ghost use Rattle.chorus_scene.specs.Print.{behind, dest_text, command_text, said_as, version_text, sites_text, said_text, said_texts, script_texts, claim_text, step_text, all_ended, printed, IsReadAgain};
 
 use chorus_entry::{Command, Dest};
 use chorus_lines::is_text;
@@ -108,11 +108,29 @@ fn push_script(script: &Script, out: &mut Vec<u8>) -> Result<(), AllocError>
 {
     push_named(b"script", script.actor(), out)?;
     end_line(out)?;
-    for command in script.commands() {
-        push_command(command, out)?;
+    for index in 0..script.commands().len() {
+        push_said(script.is_await(index), &script.commands()[index], out)?;
         end_line(out)?;
     }
     Ok(())
+}
+
+/// Appends the line of one command of a script, which may be an await, without its end of line.
+fn push_said(waits: bool, command: &Command, out: &mut Vec<u8>) -> Result<(), AllocError>
+    ensures ok { OnOk result (out.new.items ≡ out.old.items ++ said_as waits command.now) }
+    ensures err { OnErr result (take (length out.old.items) out.new.items ≡ out.old.items) }
+{
+    match command {
+        Command::Take { port } => {
+            let word = if waits {
+                b"await".as_slice()
+            } else {
+                b"take".as_slice()
+            };
+            push_named(word, *port, out)
+        }
+        _ => push_command(command, out),
+    }
 }
 
 /// Appends the line of one command of a script, without its end of line.

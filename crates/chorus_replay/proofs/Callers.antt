@@ -22,7 +22,7 @@ use Rattle.chorus_scene.specs.declared.scenario.Step.TheVariants as steps
 use Rattle.chorus_scene.specs.Scene.{Scene, Script}
 use Rattle.chorus_scene.specs.Grammar.{script_at, is_step}
 use Rattle.chorus_report.specs.Setup.{setup_commands}
-use Rattle.chorus_replay.specs.Order.{in_setup, entering, step_tasks, in_schedule, then_drain, left_from, order, tasks}
+use Rattle.chorus_replay.specs.Order.{in_setup, entering, step_tasks, in_schedule, then_drain, left_from, opening_order, order, tasks}
 use Rattle.chorus_report.specs.Headline.{callers_of}
 
 -- The actors of the callers after events.
@@ -186,6 +186,13 @@ left-none schedule k (script ∷ scripts) =
     let cs = drop (count_by (is_step k) schedule) script.commands in
     actors-append (then_drain k cs) (left_from schedule (k + 1) scripts)
     ∙ ap₂ (λ xs ys. xs ++ ys) (drains-none k cs) (left-none schedule (k + 1) scripts)
+
+pub actors-opening : (c : Scene) → actors_by (opening_order c) ≡ first_actor ∷ map (λ (script : Script). script.actor) c.scripts
+actors-opening c =
+    ap (λ z. first_actor ∷ z)
+    (ap actors_by (map-append Do (in_setup c) (entering c))
+    ∙ actors-append (map Do (in_setup c)) (map Do (entering c))
+    ∙ ap₂ (λ xs ys. xs ++ ys) (acts-none 0 (setup_commands c)) (entering-all _ c.scripts))
 
 pub actors-order : (c : Scene) → actors_by (order c) ≡ first_actor ∷ map (λ (script : Script). script.actor) c.scripts
 actors-order c =

@@ -25,7 +25,7 @@ q = record { site = 1; kind = kinds.Port; number = 1 }
 abbrev small : Scene
 small =
     scene_with (record { sites = 2; turns = 1 }) 2 2 (setups.Port first_actor 4 ∷ [])
-    (record { actor = other; commands = Command.Send (Dest.Port q) [] ∷ Command.Take q ∷ [] } ∷ [])
+    (record { actor = other; commands = Command.Send (Dest.Port q) [] ∷ Command.Take q ∷ []; waits = [] } ∷ [])
     (steps.Step 1 ∷ steps.Deliver 2 1 ∷ steps.Drain ∷ [])
 
 -- the caller comes with the clock of the port's entry; the Take is left, with a drain behind it, and a last drain ends it all
@@ -49,8 +49,8 @@ group = record { site = 1; kind = kinds.Group; number = 1 }
 abbrev two : Scene
 two =
     scene_with (record { sites = 2; turns = 1 }) 2 2 (setups.Port first_actor 4 ∷ setups.Group 1 ∷ setups.Member group q ∷ [])
-    (record { actor = first_actor; commands = Command.Take q ∷ [] }
-    ∷ record { actor = other; commands = Command.Send (Dest.All group) [] ∷ Command.Cancel ∷ [] } ∷ [])
+    (record { actor = first_actor; commands = Command.Take q ∷ []; waits = [] }
+    ∷ record { actor = other; commands = Command.Send (Dest.All group) [] ∷ Command.Cancel ∷ []; waits = [] } ∷ [])
     (steps.Step 2 ∷ [])
 
 pub two-order : order two ≡

@@ -65,7 +65,7 @@ other-acts k s (c ∷ cs) e =
     let rest = commands_in k (map Do (map (Act s) cs)) in
     ap (λ b. cond b (c ∷ rest) rest) e ∙ other-acts k s cs e
 
-no-entering : (k last : ℕ) (scripts : List Script) → commands_in k (map Do (map (λ (script : Script). Enter script.actor last) scripts)) ≡ []
+pub no-entering : (k last : ℕ) (scripts : List Script) → commands_in k (map Do (map (λ (script : Script). Enter script.actor last) scripts)) ≡ []
 no-entering k last [] = refl
 no-entering k last (script ∷ scripts) = no-entering k last scripts
 

@@ -26,7 +26,7 @@ use Rattle.chorus_scene.specs.Making.{next_port, made_after, members_of}
 use Rattle.chorus_scene.specs.Grammar.{most_bytes, script_at, no_script, is_step}
 use Rattle.chorus_scene.specs.Limits.{Keeps, is_site, is_actor_of, is_place_of, command_is_of, bytes_sent, is_of_version, command_keeps, script_keeps, setup_line_keeps, setup_keeps, step_keeps, schedule_keeps}
 use Rattle.chorus_report.specs.Setup.{setup_command, setup_commands}
-use Rattle.chorus_replay.specs.Order.{in_setup, set_up, entering, step_tasks, in_schedule, then_drain, left_from, order, tasks}
+use Rattle.chorus_replay.specs.Order.{in_setup, set_up, entering, step_tasks, in_schedule, then_drain, left_from, opening_order, order, tasks}
 use Rattle.chorus_replay.proofs.Given.{commands-given, commands-none}
 use Rattle.chorus_replay.proofs.Callers.{actors_by, actors-append, acts-none, entering-all, step-none, schedule-none, drains-none, left-none}
 use Rattle.chorus_replay.specs.declared.loading.TheConstants.{LOAD_LIMIT}
@@ -70,7 +70,7 @@ place-fits l n p h is =
     and_from (nat_le 1 p) (nat_le p (places l)) two.0 (le-leb p (places l) (omega (arith, high, wide)))
 
 module _ (l : Layout) (version n : ℕ) (N : ℕ) (some : 0 < N) where
-  command-needs : (k : ℕ) (c : Command) → k < N → 1 ≤ k → command_keeps l version n c ≡ true → Needs l N (Do (Act k c))
+  pub command-needs : (k : ℕ) (c : Command) → k < N → 1 ≤ k → command_keeps l version n c ≡ true → Needs l N (Do (Act k c))
   command-needs k c came low keeps =
       let bytes = nat_le (length (bytes_sent c)) (most_bytes version) in
       let of = command_is_of l n c in
@@ -86,7 +86,7 @@ module _ (l : Layout) (version n : ℕ) (N : ℕ) (some : 0 < N) where
       let two = and_parts (command_keeps l version n c) (list_all (command_keeps l version n) cs) keeps in
       (command-needs k c came low two.0, (some, drains-need k cs came low two.1))
 
-  script-commands : (script : Script) → script_keeps l version n script ≡ true → list_all (command_keeps l version n) script.commands ≡ true
+  pub script-commands : (script : Script) → script_keeps l version n script ≡ true → list_all (command_keeps l version n) script.commands ≡ true
   script-commands script keeps =
       (and_parts (is_actor_of l n script.actor && nat_le (length script.commands) COMMANDS_LIMIT) (list_all (command_keeps l version n) script.commands) keeps).1
 
@@ -188,6 +188,18 @@ first-there l shape =
     let site : nat_le 1 l.sites ≡ true = le-leb 1 l.sites low in
     ap (λ b. b && true) (ap (λ b. b && true) site)
 
+-- the start of the sites, the setup and the callers
+pub opening-needs : (c : Scene) → IsLayout c.layout → Keeps c → NeedsOn c.layout 0 (opening_order c)
+opening-needs c shape keeps =
+    let l = c.layout in
+    let last = last_of (slice_get (set_up c).callers 0) in
+    let split = map-append Do (in_setup c) (entering c) in
+    let seats : NeedsOn l 1 (map Do (in_setup c ++ entering c)) =
+    subst (NeedsOn l 1) (sym split)
+    (on-still l 1 (map Do (in_setup c)) (map Do (entering c)) (acts-none 0 (setup_commands c)) (setup-needs l c.sites [] c.setup keeps.setup)
+    (entering-needs l c.version c.sites 1 last c.scripts keeps.scripts)) in
+    ((refl, first-there l shape), seats)
+
 needs-order : (c : Scene) → IsLayout c.layout → Keeps c → NeedsOn c.layout 0 (order c)
 needs-order c shape keeps =
     let l = c.layout in
@@ -238,7 +250,7 @@ needs-order c shape keeps =
     one : (n : ℕ) → 1 + n ≤ suc n
     one n = omega arith
 
-few-scripts : (l : Layout) (version n i : ℕ) (scripts : List Script) (script : Script) → list_all (script_keeps l version n) scripts ≡ true → slice_get scripts i ≡ Some script → length script.commands ≤ COMMANDS_LIMIT
+pub few-scripts : (l : Layout) (version n i : ℕ) (scripts : List Script) (script : Script) → list_all (script_keeps l version n) scripts ≡ true → slice_get scripts i ≡ Some script → length script.commands ≤ COMMANDS_LIMIT
 few-scripts l version n i scripts script keeps found =
     let few = nat_le (length script.commands) COMMANDS_LIMIT in
     let outer = and_parts (is_actor_of l n script.actor && few) (list_all (command_keeps l version n) script.commands) (all-get (script_keeps l version n) scripts i script keeps found) in

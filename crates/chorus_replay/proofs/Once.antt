@@ -21,10 +21,17 @@ use Rattle.chorus_show.specs.Report.{report}
 use Rattle.chorus_show.specs.declared.status.Status.{Status}
 use Rattle.chorus_net.specs.Worn.{compared_by, IsUnworn, AreUnworn, IsInRounds}
 use Rattle.chorus_replay.specs.Worn.{AreWornBy, ComesNext}
-use Rattle.chorus_replay.specs.Ordered.{CarryAsFar, IsOrdered}
-use Rattle.chorus_replay.specs.Order.{tasks}
+use Rattle.chorus_replay.specs.Ordered.{CarryAsFar, IsOrdered, StuckUnless}
+use Rattle.chorus_replay.specs.Waiting.{Standing, Follows, IsOver, IsOverUnless, opened}
 use Rattle.chorus_replay.specs.Laws.{worn_clock, OrderedOnce, ReplaysOnce}
 use Rattle.chorus_replay.proofs.Plays.{deliveries, behind}
+use Rattle.chorus_scene.proofs.Law.{printed_again}
+use Rattle.chorus_report.specs.Awaiting.{stuck_of}
+use Rattle.chorus_show.specs.declared.stuck.Stuck.{Stuck}
+use Rattle.chorus_show.specs.Report.{report_with}
+use Rattle.chorus_net.specs.declared.closed.Closed.{Closed}
+use Rattle.chorus_merge.specs.Steps.{journals_of}
+use Rattle.chorus_replay.proofs.Determined.{either, ends-there, ordered-behind}
 use Rattle.chorus_replay.proofs.Stepping.{may-suffix}
 
 -- Two ends of one list: one is an end of the other.
@@ -269,12 +276,64 @@ one-scene : (x y : Scene) (r : Result Scene (ℕ × ℕ)) → r ≡ Ok x → r �
 one-scene x y (Ok z) a b = let first : z ≡ x = cc in let second : z ≡ y = cc in sym first ∙ second
 one-scene x y (Err e) a b = absurd (cc)
 
+-- of two replays one came as far as the other, or farther, and both closed what the tasks of that one leave
+common : (c : Scene) (u v : Standing) (s t : Status) (one other : Closed) → Follows c (opened c) u → Follows c (opened c) v → IsOverUnless s c u → IsOverUnless t c v → IsOrdered c.layout u.tasks s one → IsOrdered c.layout v.tasks t other
+    → (ts : List Task) × (IsOrdered c.layout ts s one × IsOrdered c.layout ts t other)
+common c u v s t one other f g over ended a b = by (either c (opened c) u v f g)
+  where
+    by : Follows c u v ⊎ Follows c v u → (ts : List Task) × (IsOrdered c.layout ts s one × IsOrdered c.layout ts t other)
+    by (inl h) = (v.tasks, (ordered-behind c u v s one h over a, b))
+    by (inr h) = (u.tasks, (a, ordered-behind c v u t other h ended b))
+
+-- those that are over are one
+none-worn : (s : Status) (c : Scene) (u : Standing) → worn_clock s ≡ None → IsOverUnless s c u → IsOver c u
+none-worn Status.Done c u e h = h
+none-worn Status.Usage c u e h = h
+none-worn (Status.Scenario line reason) c u e h = h
+none-worn Status.ReadFault c u e h = h
+none-worn Status.WriteFault c u e h = h
+none-worn Status.Memory c u e h = h
+none-worn (Status.Worn clock) c u e h = absurd (cc)
+
+none-stuck : (s : Status) (c : Scene) (done : List ℕ) (stuck : List Stuck) → worn_clock s ≡ None → StuckUnless s c done stuck → stuck ≡ stuck_of c done
+none-stuck Status.Done c done stuck e h = h
+none-stuck Status.Usage c done stuck e h = h
+none-stuck (Status.Scenario line reason) c done stuck e h = h
+none-stuck Status.ReadFault c done stuck e h = h
+none-stuck Status.WriteFault c done stuck e h = h
+none-stuck Status.Memory c done stuck e h = h
+none-stuck (Status.Worn clock) c done stuck e h = absurd (cc)
+
+over-once : (c : Scene) (u v : Standing) → Follows c (opened c) u → Follows c (opened c) v → IsOver c u → IsOver c v → u ≡ v
+over-once c u v f g over ended = by (either c (opened c) u v f g)
+  where
+    by : Follows c u v ⊎ Follows c v u → u ≡ v
+    by (inl h) = ends-there c u v over h
+    by (inr h) = sym (ends-there c v u ended h)
+
 pub replays-once : ReplaysOnce
-replays-once l input s t one other shape a b =
+replays-once l input s t stuck others one other shape a b =
     let first = a.runs.given in
     let second = b.runs.given in
+    let c = a.runs.scene in
     let bytes : first.bytes ≡ second.bytes = first.read ∙ sym second.read in
-    let same : a.runs.scene ≡ b.runs.scene = one-scene a.runs.scene b.runs.scene (read_scene l first.bytes) first.given (ap (read_scene l) bytes ∙ second.given) in
-    let there : IsOrdered l (tasks a.runs.scene) t other = subst (λ c. IsOrdered l (tasks c) t other) (sym same) b.ordered in
-    let outcome = ordered-once l (tasks a.runs.scene) s t one other shape a.ordered there in
-    (outcome.0, outcome.1, ap (λ js. report (merged js)) (outcome.1).journals)
+    let same : b.runs.scene ≡ c = sym (one-scene c b.runs.scene (read_scene l first.bytes) first.given (ap (read_scene l) bytes ∙ second.given)) in
+    let layout : c.layout ≡ l = (printed_again l first.bytes c first.given).0 in
+    let u = a.standing in
+    let v = b.standing in
+    let g = subst (λ d. Follows d (opened d) v) same b.follows in
+    let ended = subst (λ d. IsOverUnless t d v) same b.over in
+    let both = common c u v s t one other a.follows g a.over ended (subst (λ m. IsOrdered m u.tasks s one) (sym layout) a.ordered) (subst (λ m. IsOrdered m v.tasks t other) (sym layout) b.ordered) in
+    let outcome = ordered-once c.layout both.0 s t one other (subst IsLayout (sym layout) shape) both.1.0 both.1.1 in
+    let merges : merged (journals_of one.journals.items) ≡ merged (journals_of other.journals.items) = ap merged (outcome.1).journals in
+    record {
+      worn = outcome.0;
+      closed = outcome.1;
+      text = ap report merges;
+      written = λ none.
+          (let here = over-once c u v a.follows g (none-worn s c u none a.over) (none-worn t c v (sym outcome.0 ∙ none) ended) in
+          let lines : stuck ≡ others =
+          none-stuck s c a.runs.done stuck none a.stuck_is ∙ ap (stuck_of c) (a.done ∙ ap (λ (z : Standing). z.done) here ∙ sym b.done)
+          ∙ sym (none-stuck t c b.runs.done others (sym outcome.0 ∙ none) (subst (λ d. StuckUnless t d b.runs.done others) same b.stuck_is)) in
+          ap (λ z. report_with z (merged (journals_of one.journals.items))) lines ∙ ap (report_with others) merges);
+    }

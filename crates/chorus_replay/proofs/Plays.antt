@@ -1,5 +1,5 @@
 -- What was closed in the order of tasks plays what their callers give.
-use Rattle.std.proofs.Common.{ℕ, zero, suc, ◌≡◌, ◌==◌, Bool, true, false, cond, List, [], ◌∷◌, ◌++◌, map, reverse, Option, Some, None, is_some, slice_get, Ok, refl, sym, ◌∙◌, ap, ap₂, subst, inl, inr}
+use Rattle.std.proofs.Common.{ℕ, zero, suc, ◌≡◌, ◌==◌, Bool, true, false, cond, List, [], ◌∷◌, ◌++◌, reverse, Option, Some, None, is_some, slice_get, refl, sym, ◌∙◌, ap, ap₂, subst, inl, inr}
 use Rattle.std.specs.Option.{option_map}
 use Rattle.std.proofs.lemmas.Bool.{and_parts, eqb-true, false≢true}
 use Rattle.std.proofs.lemmas.List.{reverse-append, reverse-reverse}
@@ -11,7 +11,6 @@ use Rattle.chorus_entry.specs.declared.command.Command.{Command}
 use Rattle.chorus_world.specs.Commands.{performs}
 use Rattle.chorus_calls.specs.Callers.{Seated}
 use Rattle.chorus_net.specs.declared.closed.Closed.{Closed}
-use Rattle.law_network.specs.Calls.{starting}
 use Rattle.chorus_net.specs.Closing.{IsLeft, past_of}
 use Rattle.law_network.specs.Left.{merged_past}
 use Rattle.law_network.specs.Network.{NetState, Event, Enter, Act, Deliver, See, schedule, round, rounds}
@@ -26,16 +25,11 @@ use Rattle.law_network.proofs.Draining.Drained.{drains-rest}
 use Rattle.law_network.proofs.Draining.Drains.{round-deliveries, carried-commands}
 use Rattle.law_network.proofs.Draining.Stopped.{fronts-give-fronts}
 use Rattle.chorus_show.specs.declared.status.Status.{Status}
-use Rattle.chorus_scene.specs.Scene.{Scene}
-use Rattle.chorus_scene.specs.Limits.{Keeps}
-use Rattle.chorus_replay.specs.Order.{in_setup, entering, in_schedule, left_from, tasks}
 use Rattle.chorus_net.specs.Worn.{IsInRounds}
 use Rattle.chorus_replay.specs.Worn.{ComesNext}
-use Rattle.chorus_report.specs.Headline.{PerformsAll, PerformsFirst, PerformsUnless, IsQuietUnless, Plays, AreWithinUnless, callers_of, commands_by}
-use Rattle.chorus_replay.specs.Ordered.{IsOrdered, Replays}
-use Rattle.chorus_report.specs.Reading.{IsGiven}
-use Rattle.chorus_replay.proofs.Given.{commands-given}
-use Rattle.chorus_replay.proofs.Callers.{AreComers, actors_in, actor-after, are-comers, callers-given, callers-so-far, get-front}
+use Rattle.chorus_report.specs.Headline.{PerformsAll, PerformsFirst, PerformsUnless, IsQuietUnless, Plays}
+use Rattle.chorus_replay.specs.Ordered.{IsOrdered}
+use Rattle.chorus_replay.proofs.Callers.{AreComers, actors_in, actor-after, callers-given, callers-so-far, get-front}
 
 -- Fronts.
 
@@ -175,27 +169,3 @@ module _ (l : Layout) (ts : List Task) (callers : ℕ → Option Ui) (commands :
   plays Status.Memory closed is = plays-out l ts callers commands are shape closed is.events is.may is.closes.left is.carried Status.Memory (λ k actor given h. h) (λ h. h)
   plays (Status.Worn clock) closed is =
       plays-front l ts callers commands are shape closed is.events is.may is.closes.left (front-of l ts is.carried.next is.events is.carried.comes) clock
-
--- the tasks of a scenario are by its callers with its commands
-pub are-of-scene : (c : Scene) → Keeps c → AreOf (tasks c) (callers_of c) (commands_by c)
-are-of-scene c keeps =
-    let before = map Do (starting ∷ in_setup c ++ entering c) ++ in_schedule c.scripts [] c.schedule ++ left_from c.schedule 1 c.scripts in
-    record {
-      come = are-comers c;
-      first = refl;
-      give = commands-given c keeps;
-      before = reverse before;
-      last = reverse-append before (Drain 0 ∷ []);
-    }
-
--- so what was closed in the order of a scenario that was given replays it
-pub replays-as : (c : Scene) → IsLayout c.layout → Keeps c → (m : Layout) (told : Option (List ℕ)) (status : Status) (closed : Closed) → c.layout ≡ m → IsGiven m told (Ok c) → IsOrdered c.layout (tasks c) status closed → AreWithinUnless status closed → Replays m told status closed
-replays-as c shape keeps m told status closed same given is within = record {
-  runs = record {
-    scene = c;
-    given = given;
-    plays = subst (λ (z : Layout). Plays z (callers_of c) (commands_by c) status closed) same (plays c.layout (tasks c) (callers_of c) (commands_by c) (are-of-scene c keeps) shape status closed is);
-    within = within;
-  };
-  ordered = subst (λ (z : Layout). IsOrdered z (tasks c) status closed) same is;
-}

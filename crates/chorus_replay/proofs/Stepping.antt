@@ -36,12 +36,12 @@ use Rattle.chorus_replay.proofs.May.{tasks-may, first-there}
 use Rattle.chorus_replay.proofs.Clocks.{BeginsSo, clocks-more, clocks-delivered, clocks-start, first-clock, worn-in-merge, has-reverse}
 use Rattle.chorus_replay.proofs.Plays.{deliveries, in-rounds}
 
-may-older : (l : Layout) (newer older : List Task) → MayAll l (newer ++ older) → MayAll l older
+pub may-older : (l : Layout) (newer older : List Task) → MayAll l (newer ++ older) → MayAll l older
 may-older l [] older h = h
 may-older l (Do e ∷ newer) older h = may-older l newer older h.1
 may-older l (Drain k ∷ newer) older h = may-older l newer older h.1
 
-comes-more : (l : Layout) (newer older : List Task) (next : Event) (es : List Event) → ComesNext l older next es → ComesNext l (newer ++ older) next es
+pub comes-more : (l : Layout) (newer older : List Task) (next : Event) (es : List Event) → ComesNext l older next es → ComesNext l (newer ++ older) next es
 comes-more l [] older next es h = h
 comes-more l (Do e ∷ newer) older next es h = inr (comes-more l newer older next es h)
 comes-more l (Drain k ∷ newer) older next es h = inr (comes-more l newer older next es h)

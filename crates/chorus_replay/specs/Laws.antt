@@ -10,7 +10,8 @@ use Rattle.chorus_show.specs.declared.status.Status.{Status}
 use Rattle.chorus_show.specs.declared.status.Status.TheVariants.{Worn}
 use Rattle.chorus_replay.specs.Ordered.{IsOrdered, Replays}
 use Rattle.chorus_replay.specs.Load.{Loads}
-use Rattle.chorus_report.specs.Output.{summary, text_of}
+use Rattle.chorus_show.specs.declared.stuck.Stuck.{Stuck}
+use Rattle.chorus_report.specs.Output.{summary, text_of, text_with}
 
 -- the clock that was worn, if one was
 abbrev pub worn_clock : Status → Option ℕ
@@ -31,12 +32,19 @@ OrderedOnce =
     (worn_clock s ≡ worn_clock t) × AreClosedAlike one other
 
 -- So what a replay closes and writes is a function of the layout and of the bytes that it reads: two replays of the
--- same bytes wear the same clock or none, close the same, and their reports are one text.
+-- same bytes wear the same clock or none, and close the same; their reports are one text, also with the scripts that are
+-- stuck, unless a clock was worn.
+pub record ReplayAlike (s t : Status) (stuck others : List Stuck) (one other : Closed) : Type 0 where
+  pub worn : worn_clock s ≡ worn_clock t
+  pub closed : AreClosedAlike one other
+  pub text : text_of (Some one) ≡ text_of (Some other)
+  pub written : worn_clock s ≡ None → text_with stuck (Some one) ≡ text_with others (Some other)
+
 abbrev pub ReplaysOnce : Type 0
 ReplaysOnce =
-    (l : Layout) (input : List ℕ) (s t : Status) (one other : Closed) → IsLayout l → Replays l (Some input) s one →
-    Replays l (Some input) t other →
-    (worn_clock s ≡ worn_clock t) × AreClosedAlike one other × (text_of (Some one) ≡ text_of (Some other))
+    (l : Layout) (input : List ℕ) (s t : Status) (stuck others : List Stuck) (one other : Closed) → IsLayout l →
+    Replays l (Some input) stuck s one → Replays l (Some input) others t other →
+    ReplayAlike s t stuck others one other
 
 -- so do two loads of the same words: what they write is the same
 abbrev pub LoadsOnce : Type 0

@@ -1,4 +1,5 @@
 pub mod Order
+pub mod Waiting
 pub mod Worn
 pub mod Ordered
 pub mod Performing

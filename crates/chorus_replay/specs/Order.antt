@@ -52,10 +52,14 @@ left_from schedule k [] = []
 left_from schedule k (script ∷ scripts) =
     then_drain k (drop (count_by (is_step k) schedule) script.commands) ++ left_from schedule (k + 1) scripts
 
--- all of it, from the start of the sites on; a last drain ends it
+-- the first of it: the start of the sites, the setup and the callers of the scripts
+abbrev pub opening_order : Scene → List Task
+opening_order c = map Do (starting ∷ in_setup c ++ entering c)
+
+-- all of it, where nothing waits; a last drain ends it
 abbrev pub order : Scene → List Task
 order c =
-    map Do (starting ∷ in_setup c ++ entering c) ++ in_schedule c.scripts [] c.schedule
+    opening_order c ++ in_schedule c.scripts [] c.schedule
     ++ left_from c.schedule 1 c.scripts ++ Drain 0 ∷ []
 
 abbrev pub tasks : Scene → List Task

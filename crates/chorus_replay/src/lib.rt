@@ -12,6 +12,7 @@
 
 #![tactic(auto)]
 
+mod awaiting;
 mod closing;
 mod draws;
 mod following;
@@ -20,8 +21,11 @@ mod loading;
 mod performing;
 mod replaying;
 
+pub use awaiting::would_take;
 pub use draws::LOAD_SITES;
-pub use laws::{a_load_has_one_outcome, a_replay_has_one_outcome};
+pub use laws::{
+    a_load_has_one_outcome, a_replay_has_one_outcome, without_awaits_the_scenario_tells_the_order,
+};
 pub use loading::{LOAD_LIMIT, load};
 pub use performing::{enter, set_up};
 pub use replaying::replay;

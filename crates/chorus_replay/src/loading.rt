@@ -43,7 +43,7 @@ pub fn load<K: Sink>(
     ensures mark { IfSome result.closed (HasMark sites.mark) }
 {
     let played = play(alloc, sites, first, commands);
-    finish(alloc, sink, played, Text::Summary)
+    finish(alloc, sink, played, Text::Summary, &[])
 }
 
 /// Performs the load, and closes the sites.

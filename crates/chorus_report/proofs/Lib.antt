@@ -3,3 +3,4 @@ pub mod Texts
 pub mod Ends
 pub mod Seating
 pub mod Playing
+pub mod Awaiting

@@ -11,24 +11,34 @@ use Rattle.chorus_show.specs.declared.status.Status.{Status}
 use Rattle.chorus_show.specs.declared.status.Status.TheVariants.{Done, Usage, Scenario, ReadFault, WriteFault, Memory, Worn}
 use Rattle.chorus_report.specs.declared.finished.Finished.{Finished}
 use Rattle.chorus_report.specs.declared.played.Played.{Played}
-use Rattle.chorus_report.specs.Reading.{IsGiven, IsRead, ReadsNoFurther, ReadsWithin}
+use Rattle.chorus_scene.specs.Grammar.{read_scene}
+use Rattle.chorus_report.specs.Reading.{ReadsText, IsGivenBy, IsRead, ReadsNoFurther, ReadsWithin, read_without_waits}
 use Rattle.chorus_report.specs.Headline.{HasClock}
 use Rattle.chorus_net.specs.Closing.{merge_of}
 use Rattle.chorus_report.specs.Output.{Writes, HandsOut}
 
--- What was read of the source, by the status: never Usage; Scenario where the grammar refuses what was read, with that
+-- What was read of the source, by the status: never Usage; Scenario where it is read so that it is refused, with that
 -- line and reason; ReadFault where the count rose, and with no other status did it rise; Memory where no more than the
 -- limit was read, since what is longer is refused. But for ReadFault and Memory all was read.
-pub record EndsReading {S : Type 0} (l : Layout) (status : Status) (left : S → Option (List ℕ)) (faults : S → ℕ)
-    (reliable : S → Type 0) (old new : S) : Type 0 where
+pub record EndsReadingBy {S : Type 0} (reads : ReadsText) (l : Layout) (status : Status)
+    (left : S → Option (List ℕ)) (faults : S → ℕ) (reliable : S → Type 0) (old new : S) : Type 0 where
   pub usage : status ≢ Usage
-  pub scenario : (line reason : ℕ) → status ≡ Scenario line reason → IsGiven l (left old) (Err (line, reason))
+  pub scenario : (line reason : ℕ) → status ≡ Scenario line reason → IsGivenBy reads l (left old) (Err (line, reason))
   pub read_fault : status ≡ ReadFault → Rose (faults old) (faults new)
   pub steady : status ≢ ReadFault → faults new ≡ faults old
   pub no_fault : reliable old → faults new ≡ faults old
   pub read : status ≢ ReadFault → status ≢ Memory → IsRead (left old) (left new)
   pub memory : status ≡ Memory → ReadsWithin (left old) (left new)
   pub reads_at_most : ReadsNoFurther (left old) (left new)
+
+-- of a call that takes each scenario of the grammar, and of one that takes no awaits
+abbrev pub EndsReading : {S : Type 0} → Layout → Status → (S → Option (List ℕ)) → (S → ℕ) → (S → Type 0) → S → S → Type 0
+EndsReading l status left faults reliable old new = EndsReadingBy read_scene l status left faults reliable old new
+
+abbrev pub EndsReadingNoWait : {S : Type 0} → Layout → Status → (S → Option (List ℕ)) → (S → ℕ) → (S → Type 0) → S → S →
+    Type 0
+EndsReadingNoWait l status left faults reliable old new =
+    EndsReadingBy read_without_waits l status left faults reliable old new
 
 -- What was written of what was closed, by the status: WriteFault where the count rose; Worn with a clock of at least
 -- 2^62 that an entry has; something was closed at Done, WriteFault and Worn alone. Of the text the sink took what the

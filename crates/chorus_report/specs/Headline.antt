@@ -19,10 +19,11 @@ use Rattle.law_network.specs.Quiet.{IsQuiet}
 use Rattle.chorus_show.specs.Bounds.{AreWithin}
 use Rattle.chorus_show.specs.declared.status.Status.{Status}
 use Rattle.chorus_show.specs.declared.status.Status.TheVariants.{Worn}
-use Rattle.chorus_scene.specs.Scene.{Scene, Script}
+use Rattle.chorus_scene.specs.Scene.{Scene, Script, HasNoWait}
 use Rattle.law_network.specs.Fates.{HoldsByFate, WorldHolds}
 use Rattle.chorus_report.specs.Setup.{setup_commands}
-use Rattle.chorus_report.specs.Reading.{IsGiven}
+use Rattle.chorus_report.specs.Awaiting.{fronts_of, StandsUnless}
+use Rattle.chorus_report.specs.Reading.{IsGiven, IsGivenNoWait}
 
 -- an entry of the list has this clock
 abbrev pub HasClock : ℕ → List Entry → Type 0
@@ -72,7 +73,7 @@ pub record Plays (l : Layout) (callers : ℕ → Option Ui) (commands : ℕ → 
 abbrev pub callers_of : Scene → ℕ → Option Ui
 callers_of c k = slice_get (first_actor ∷ map (λ (script : Script). script.actor) c.scripts) k
 
--- the commands of each seat: those of the setup for seat 0, and those of script k for seat k
+-- all commands of each seat: those of the setup for seat 0, and those of script k for seat k
 abbrev pub commands_by : Scene → ℕ → Option (List Command)
 commands_by c k = slice_get (setup_commands c ∷ map (λ (script : Script). script.commands) c.scripts) k
 
@@ -81,9 +82,33 @@ abbrev pub AreWithinUnless : Status → Closed → Type 0
 AreWithinUnless (Worn clock) closed = Unit {0}
 AreWithinUnless status closed = AreWithin (merge_of closed)
 
--- there is a scenario that the source gives, and what was closed plays it; its entries have lines
+-- There is a scenario that the source gives. What was closed plays it: of each script its first commands, so many as
+-- were done, each await by a message that came; and what is left of a script waits for what will not come. Its entries
+-- have lines.
 pub record Runs (l : Layout) (told : Option (List ℕ)) (status : Status) (closed : Closed) : Type 0 where
   pub scene : Scene
   pub given : IsGiven l told (Ok scene)
+  pub done : List ℕ
+  pub plays : Plays l (callers_of scene) (fronts_of scene done) status closed
+  pub stands : StandsUnless status l scene done (past_of closed)
+  pub within : AreWithinUnless status closed
+
+-- The same of a call that takes no awaits: there is a scenario that the source gives, in which nothing waits, and what
+-- was closed plays all of it.
+pub record RunsWhole (l : Layout) (told : Option (List ℕ)) (status : Status) (closed : Closed) : Type 0 where
+  pub scene : Scene
+  pub given : IsGivenNoWait l told (Ok scene)
   pub plays : Plays l (callers_of scene) (commands_by scene) status closed
   pub within : AreWithinUnless status closed
+
+-- it runs, and nothing waits in its scenario
+abbrev pub WholeRuns : Type 0
+WholeRuns =
+    (l : Layout) (told : Option (List ℕ)) (status : Status) (closed : Closed) → RunsWhole l told status closed →
+    (r : Runs l told status closed) × HasNoWait r.scene
+
+-- where nothing waits, it is played whole
+abbrev pub RunsWithoutWaits : Type 0
+RunsWithoutWaits =
+    (l : Layout) (told : Option (List ℕ)) (status : Status) (closed : Closed) (r : Runs l told status closed) →
+    HasNoWait r.scene → Plays l (callers_of r.scene) (commands_by r.scene) status closed

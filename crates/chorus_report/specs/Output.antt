@@ -1,10 +1,11 @@
 -- What a top call did to its sink, by its status.
-use Rattle.std.specs.Prelude.{◌≡◌, ℕ, List, [], Option, Some, None}
+use Rattle.std.specs.Prelude.{◌≡◌, ℕ, List, [], ◌++◌, Option, Some, None, codes}
 use Rattle.std.specs.Io.KnownBytes.{Appends}
 use Rattle.chorus_io.specs.Bytes.{AppendsPrefix}
 use Rattle.chorus_show.specs.Summary.{summary_text}
-use Rattle.chorus_show.specs.Report.{report}
+use Rattle.chorus_show.specs.Report.{report, report_with}
 use Rattle.chorus_net.specs.declared.closed.Closed.{Closed}
+use Rattle.chorus_show.specs.declared.stuck.Stuck.{Stuck}
 use Rattle.chorus_report.specs.declared.writing.Text.{Text}
 use Rattle.chorus_report.specs.declared.writing.Text.TheVariants as texts
 use Rattle.chorus_net.specs.Closing.{merge_of}
@@ -44,6 +45,14 @@ abbrev pub text_of : Option Closed → List ℕ
 text_of None = []
 text_of (Some closed) = report (merge_of closed)
 
+-- the bytes end so
+abbrev pub IsEnded : List ℕ → Type 0
+IsEnded bytes = (front : List ℕ) × (bytes ≡ front ++ codes "end\n")
+
+abbrev pub text_with : List Stuck → Option Closed → List ℕ
+text_with stuck None = []
+text_with stuck (Some closed) = report_with stuck (merge_of closed)
+
 -- or the summary text alone
 abbrev pub summary : Closed → List ℕ
 summary closed = summary_text (merge_of closed)
@@ -52,6 +61,6 @@ abbrev pub summary_of : Option Closed → List ℕ
 summary_of None = []
 summary_of (Some closed) = summary closed
 
-abbrev pub text_as : Text → Option Closed → List ℕ
-text_as texts.Report closed = text_of closed
-text_as texts.Summary closed = summary_of closed
+abbrev pub text_as : Text → List Stuck → Option Closed → List ℕ
+text_as texts.Report stuck closed = text_with stuck closed
+text_as texts.Summary stuck closed = summary_of closed

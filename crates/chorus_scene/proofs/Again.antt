@@ -21,7 +21,7 @@ use Rattle.chorus_lines.specs.declared.word.Reason.TheVariants as reasons
 use Rattle.chorus_lines.specs.Text.{are_fields, some_empty, each_byte, is_plain, number_in}
 use Rattle.chorus_lines.specs.Body.{body_in, body_text, begins_a_body}
 use Rattle.chorus_scene.specs.Scene.{Scene}
-use Rattle.chorus_scene.specs.Line.{Line, SitesLine, PortLine, GroupLine, MemberLine, ScriptLine, CommandLine, ClaimLine, ScheduleLine, StepLine, EndLine, wants, has_body, is_misshapen, field, with_two, with_three, name_in, target_kind, dest_of, line_of}
+use Rattle.chorus_scene.specs.Line.{Line, SitesLine, PortLine, GroupLine, MemberLine, ScriptLine, CommandLine, AwaitLine, ClaimLine, ScheduleLine, StepLine, EndLine, wants, has_body, is_misshapen, field, with_two, with_three, name_in, target_kind, dest_of, line_of}
 use Rattle.chorus_scene.specs.Grammar.{judge_fields, judge_line, unless, known, is_no_claim, is_misspelled, is_beyond, names_unknown, repeats, is_not_given, is_unscheduled, is_huge, is_no_capacity, most_sites, most_bytes, last_is_full, command_is_beyond}
 use Rattle.chorus_scene.specs.Print.{behind, command_text, text_of}
 use Rattle.chorus_scene.proofs.Spelled.{both, spelled_name}
@@ -116,6 +116,9 @@ not_beyond c x h = (clear c x h).limit
 -- a command was read, so the last script has room for it
 pub room_of : (c : Scene) (w : Word) (fs : List (List ℕ)) (command : Command) → judge_fields c w fs ≡ Ok (CommandLine command) → last_is_full c ≡ false
 room_of c w fs command h = or_first (last_is_full c) (command_is_beyond c.version command) (not_beyond c (CommandLine command) (inv_fields c w fs (CommandLine command) h).judged)
+
+pub await_room : (c : Scene) (fs : List (List ℕ)) (port : Ui) → judge_fields c words.Await fs ≡ Ok (AwaitLine port) → last_is_full c ≡ false
+await_room c fs port h = not_beyond c (AwaitLine port) (inv_fields c words.Await fs (AwaitLine port) h).judged
 
 -- how many fields there are
 shape_parts : (a h b : Bool) → (not a || (h && not b)) ≡ false → (a ≡ true) × (h ≡ true → b ≡ true)
@@ -312,6 +315,11 @@ module _ (c : Scene) (x : Line) where
   claim_is : (a : List ℕ) → Passes c words.Claim (a ∷ []) x → text_of x ≡ codes "claim" ++ behind (a ∷ [])
   claim_is a p = let e : ClaimLine a ≡ x = (let k : ◌≡◌ {A = Option Line} (Some (ClaimLine a)) (Some x) = p.line in cc) in sym (ap text_of e)
 
+  await_is : (a : List ℕ) → Passes c words.Await (a ∷ []) x → text_of x ≡ codes "await" ++ behind (a ∷ [])
+  await_is a p =
+      let q = inv_map AwaitLine (name_in kinds.Port a) x p.line in
+      sym (ap text_of q.2) ∙ same_one (codes "await") (name_text q.0) a (spelled_name kinds.Port a q.0 q.1)
+
   step_is : (a : List ℕ) → Passes c words.Step (a ∷ []) x → text_of x ≡ codes "step" ++ behind (a ∷ [])
   step_is a p =
       let q = inv_map (λ n. StepLine (steps.Step n)) (number_in a) x p.line in
@@ -473,6 +481,7 @@ module _ (c : Scene) (x : Line) where
   again words.Member fs p plain = two words.Member refl fs p (λ a b q k. same_fields words.Member (a ∷ b ∷ []) refl q k (member_is a b q)) plain
   again words.Script fs p plain = one words.Script refl fs p (λ a q k. same_fields words.Script (a ∷ []) refl q k (script_is a q)) plain
   again (words.Command verb) fs p plain = command_again verb fs p plain
+  again words.Await fs p plain = one words.Await refl fs p (λ a q k. same_fields words.Await (a ∷ []) refl q k (await_is a q)) plain
   again words.Claim fs p plain = one words.Claim refl fs p (λ a q k. same_fields words.Claim (a ∷ []) refl q k (claim_is a q)) plain
   again words.Schedule fs p plain = none words.Schedule refl refl fs p (bare_is words.Schedule ScheduleLine p.line refl) plain
   again words.Step fs p plain = one words.Step refl fs p (λ a q k. same_fields words.Step (a ∷ []) refl q k (step_is a q)) plain

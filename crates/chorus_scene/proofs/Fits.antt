@@ -31,13 +31,13 @@ use Rattle.chorus_lines.specs.Text.{number_in}
 use Rattle.chorus_lines.specs.Body.{body_in}
 use Rattle.chorus_scene.specs.Scene.{Scene}
 use Rattle.chorus_scene.specs.Making.{next_port, next_group, members_of}
-use Rattle.chorus_scene.specs.Line.{Line, VersionLine, SitesLine, PortLine, GroupLine, MemberLine, ScriptLine, CommandLine, ClaimLine, ScheduleLine, StepLine, EndLine, line_of, command_of, name_in, if_of_kind, target_kind, dest_of, field}
+use Rattle.chorus_scene.specs.Line.{Line, VersionLine, SitesLine, PortLine, GroupLine, MemberLine, ScriptLine, CommandLine, AwaitLine, ClaimLine, ScheduleLine, StepLine, EndLine, line_of, command_of, name_in, if_of_kind, target_kind, dest_of, field}
 use Rattle.chorus_lines.specs.Words.{word_of}
 use Rattle.chorus_scene.specs.Grammar.{made, claim_fault, is_for, is_claimed, is_far, is_no_actor, is_no_site, is_known, is_no_capacity, is_huge, dest_is_huge, dest_is_unknown, command_is_beyond, command_is_unknown, last_is_full, last_script, most_sites, most_bytes, script_at, is_step}
 use Rattle.chorus_scene.specs.Limits.{is_claim, is_site, is_actor_of, dest_is_of, command_is_of, bytes_sent, is_of_version, command_keeps, setup_line_keeps, step_keeps}
 use Rattle.chorus_scene.proofs.Again.{Passes, Clear, clear, inv_map, inv_two, inv_three, and_join, or_first, or_second}
 use Rattle.chorus_scene.proofs.Spelled.{both}
-use Rattle.chorus_scene.proofs.Words.{delete_from_two, claim_from_three}
+use Rattle.chorus_scene.proofs.Words.{delete_from_two, claim_from_three, await_from_three}
 
 -- a line with a word passes the tests on its fields
 pub record Worded (c : Scene) (x : Line) : Type 0 where
@@ -69,6 +69,7 @@ Fits c (GroupLine u) = IsCounted c → setup_line_keeps c.layout c.sites c.setup
 Fits c (MemberLine group port) = IsCounted c → setup_line_keeps c.layout c.sites c.setup (setups.Member group port) ≡ true
 Fits c (ScriptLine actor) = (IsCounted c → is_actor_of c.layout c.sites actor ≡ true) × (length c.scripts < 16)
 Fits c (CommandLine command) = (IsCounted c → command_keeps c.layout c.version c.sites command ≡ true) × (length (last_script c.scripts).commands < 4096)
+Fits c (AwaitLine port) = (command_keeps c.layout c.version c.sites (commands.Take port) ≡ true) × (length (last_script c.scripts).commands < 4096) × (nat_le 3 c.version ≡ true)
 Fits c (ClaimLine text) = (is_claim c text ≡ true) × (length c.claims < 64) × (is_claimed text c.claims ≡ false) × (nat_le 3 c.version ≡ true)
 Fits c ScheduleLine = Unit {0}
 Fits c (StepLine step) = (step_keeps c.layout c.sites c.scripts c.schedule step ≡ true) × (length c.schedule < 131072)
@@ -241,38 +242,45 @@ module _ (c : Scene) where
       let p = both (not (is_far c u)) (is_member u (made c)) (not_so (is_known c u) known) in
       (site_of kind text u name (un_not (is_far c u) p.0), p.1)
 
-  line_fits : (w : Word) (fs : List (List ℕ)) (x : Line) → line_of w fs ≡ Some x → (w ≡ words.Command verbs.Delete → nat_le 2 c.version ≡ true) → (w ≡ words.Claim → nat_le 3 c.version ≡ true) → Clear c x → Fits c x
-  line_fits words.Chorus fs x h two three = absurd (let e : ◌≡◌ {A = Option Line} None (Some x) = h in cc)
-  line_fits words.Sites fs x h two three =
+  line_fits : (w : Word) (fs : List (List ℕ)) (x : Line) → line_of w fs ≡ Some x → (w ≡ words.Command verbs.Delete → nat_le 2 c.version ≡ true) → (w ≡ words.Claim → nat_le 3 c.version ≡ true) → (w ≡ words.Await → nat_le 3 c.version ≡ true) → Clear c x → Fits c x
+  line_fits words.Chorus fs x h two three waits = absurd (let e : ◌≡◌ {A = Option Line} None (Some x) = h in cc)
+  line_fits words.Sites fs x h two three waits =
       let p = inv_map SitesLine (number_in (field 0 fs)) x h in
       subst (λ y. Clear c y → Fits c y) p.2 (λ k. counted p.0 c.layout.sites (most_sites c.version) k.limit)
-  line_fits words.Port fs x h two three =
+  line_fits words.Port fs x h two three waits =
       let p = inv_three PortLine (name_in kinds.Port (field 0 fs)) (name_in kinds.Actor (field 1 fs)) (number_in (field 2 fs)) x h in
       subst (λ y. Clear c y → Fits c y) p.6 (λ k sites.
       let given = from_same_ui p.0 (next_port c.layout p.1 (made c)) (not_so (same_ui p.0 (next_port c.layout p.1 (made c))) k.order) in
       and_join _ _ (and_join _ _ (room p.2 (or_first (is_no_capacity p.2) (nat_lt 32 p.0.number) k.limit)) (actor_of (field 1 fs) p.1 p.4 (or_second (is_far c p.0) (is_no_actor c p.1) k.unknown) sites)) (subst (λ (u : Ui). nat_le u.number 32 ≡ true) given (at_most p.0.number 32 (or_second (is_no_capacity p.2) (nat_lt 32 p.0.number) k.limit))))
-  line_fits words.Group fs x h two three =
+  line_fits words.Group fs x h two three waits =
       let p = inv_map GroupLine (name_in kinds.Group (field 0 fs)) x h in
       subst (λ y. Clear c y → Fits c y) p.2 (λ k sites.
       let given = from_same_ui p.0 (next_group c.layout p.0.site (made c)) (not_so (same_ui p.0 (next_group c.layout p.0.site (made c))) k.order) in
       and_join _ _ (site_of kinds.Group (field 0 fs) p.0 p.1 k.unknown) (subst (λ (u : Ui). nat_le u.number 4 ≡ true) given (at_most p.0.number 4 k.limit)))
-  line_fits words.Member fs x h two three =
+  line_fits words.Member fs x h two three waits =
       let p = inv_two MemberLine (name_in kinds.Group (field 0 fs)) (name_in kinds.Port (field 1 fs)) x h in
       subst (λ y. Clear c y → Fits c y) p.4 (λ k sites.
       let g = known_of kinds.Group (field 0 fs) p.0 p.2 (or_first (not (is_known c p.0)) (not (is_known c p.1)) k.unknown) in
       let q = known_of kinds.Port (field 1 fs) p.1 p.3 (or_second (not (is_known c p.0)) (not (is_known c p.1)) k.unknown) in
       and_join _ _ (and_join _ _ (and_join _ _ (and_join _ _ (and_join _ _ (and_join _ _ (and_join _ _ (named kinds.Group (field 0 fs) p.0 p.2).0 (named kinds.Port (field 1 fs) p.1 p.3).0) g.0) q.0) g.1) q.1)
       (fewer (length (members_of p.0 c.setup)) 32 k.limit)) (so_not (is_member p.1 (members_of p.0 c.setup)) k.twice))
-  line_fits words.Script fs x h two three =
+  line_fits words.Script fs x h two three waits =
       let p = inv_map ScriptLine (name_in kinds.Actor (field 0 fs)) x h in
       subst (λ y. Clear c y → Fits c y) p.2 (λ k. (actor_of (field 0 fs) p.0 p.1 k.unknown, below (length c.scripts) 16 k.limit))
-  line_fits (words.Command verb) fs x h two three =
+  line_fits (words.Command verb) fs x h two three waits =
       let p = inv_map CommandLine (command_of verb fs) x h in
       subst (λ y. Clear c y → Fits c y) p.2 (λ k. (
         λ sites. verb_fits sites verb fs p.0 p.1 (or_second (last_is_full c) (command_is_beyond c.version p.0) k.limit) k.unknown (λ e. two (ap words.Command e)),
         below (length (last_script c.scripts).commands) 4096 (or_first (last_is_full c) (command_is_beyond c.version p.0) k.limit),
       ))
-  line_fits words.Claim fs x h two three =
+  line_fits words.Await fs x h two three waits =
+      let p = inv_map AwaitLine (name_in kinds.Port (field 0 fs)) x h in
+      subst (λ y. Clear c y → Fits c y) p.2 (λ k. (
+        command_by (commands.Take p.0) (named kinds.Port (field 0 fs) p.0 p.1).0 (site_of kinds.Port (field 0 fs) p.0 p.1 k.unknown) no_bytes refl,
+        below (length (last_script c.scripts).commands) 4096 k.limit,
+        waits refl,
+      ))
+  line_fits words.Claim fs x h two three waits =
       let same : ClaimLine (field 0 fs) ≡ x = bare (ClaimLine (field 0 fs)) x h in
       subst (λ y. Clear c y → Fits c y) same (λ k. (
         is_one (claim_fault c (field 0 fs)) k.unknown,
@@ -280,24 +288,24 @@ module _ (c : Scene) where
         k.twice,
         three refl,
       ))
-  line_fits words.Schedule fs x h two three = let same : ScheduleLine ≡ x = bare ScheduleLine x h in subst (λ y. Clear c y → Fits c y) same (λ k. tt)
-  line_fits words.Step fs x h two three =
+  line_fits words.Schedule fs x h two three waits = let same : ScheduleLine ≡ x = bare ScheduleLine x h in subst (λ y. Clear c y → Fits c y) same (λ k. tt)
+  line_fits words.Step fs x h two three waits =
       let p = inv_map (λ n. StepLine (steps.Step n)) (number_in (field 0 fs)) x h in
       subst (λ y. Clear c y → Fits c y) p.2 (λ k. (
         stepped p.0 (length c.scripts) (length (script_at p.0 c.scripts).commands) (count_by (is_step p.0) c.schedule) k.schedule,
         below (length c.schedule) 131072 (or_first (nat_le 131072 (length c.schedule)) (is_huge p.0) k.limit),
       ))
-  line_fits words.Deliver fs x h two three =
+  line_fits words.Deliver fs x h two three waits =
       let p = inv_two (λ a b. StepLine (steps.Deliver a b)) (number_in (field 0 fs)) (number_in (field 1 fs)) x h in
       subst (λ y. Clear c y → Fits c y) p.4 (λ k. (
         delivered p.0 p.1 (c.sites * c.layout.turns) k.schedule,
         below (length c.schedule) 131072 (or_first (nat_le 131072 (length c.schedule)) (is_huge p.0 || is_huge p.1) k.limit),
       ))
-  line_fits words.Drain fs x h two three =
+  line_fits words.Drain fs x h two three waits =
       let same : StepLine steps.Drain ≡ x = bare (StepLine steps.Drain) x h in
       subst (λ y. Clear c y → Fits c y) same (λ k. (refl, below (length c.schedule) 131072 (or_first (nat_le 131072 (length c.schedule)) false k.limit)))
-  line_fits words.End fs x h two three = let same : EndLine ≡ x = bare EndLine x h in subst (λ y. Clear c y → Fits c y) same (λ k. tt)
+  line_fits words.End fs x h two three waits = let same : EndLine ≡ x = bare EndLine x h in subst (λ y. Clear c y → Fits c y) same (λ k. tt)
 
   pub fits : (x : Line) → Tested c x → Fits c x
   fits x (inl p) = subst (Fits c) p.1 (p.2, p.3)
-  fits x (inr w) = line_fits w.word w.fields x w.passes.line (λ e. delete_from_two c.version w.text (subst (λ v. word_of c.version w.text ≡ Some v) e w.is)) (λ e. claim_from_three c.version w.text (subst (λ v. word_of c.version w.text ≡ Some v) e w.is)) (clear c x w.passes.judged)
+  fits x (inr w) = line_fits w.word w.fields x w.passes.line (λ e. delete_from_two c.version w.text (subst (λ v. word_of c.version w.text ≡ Some v) e w.is)) (λ e. claim_from_three c.version w.text (subst (λ v. word_of c.version w.text ≡ Some v) e w.is)) (λ e. await_from_three c.version w.text (subst (λ v. word_of c.version w.text ≡ Some v) e w.is)) (clear c x w.passes.judged)

@@ -1,5 +1,5 @@
 -- What a caller takes from the limits, for one line, command or step.
-use Rattle.std.proofs.Common.{◌≡◌, ℕ, zero, suc, ◌<◌, Bool, true, List, [], ◌∷◌, ◌++◌, length, get_or, sym, arith, subst, append_assoc}
+use Rattle.std.proofs.Common.{◌≡◌, ℕ, zero, suc, ◌<◌, Bool, true, List, [], ◌∷◌, ◌++◌, length, get_or, set, refl, sym, arith, subst, append_assoc}
 use Rattle.std.specs.List.{list_all}
 use Rattle.std.proofs.lemmas.List.{append-nil}
 use Rattle.chorus_ui.specs.declared.layout.Layout.{Layout}
@@ -7,12 +7,23 @@ use Rattle.chorus_scene.specs.declared.scenario.SetupLine.{SetupLine}
 use Rattle.chorus_scene.specs.declared.scenario.Step as step
 use Rattle.chorus_scene.specs.Scene.{Script}
 use Rattle.chorus_scene.specs.Limits.{setup_line_keeps, setup_keeps, step_keeps, schedule_keeps}
+use Rattle.chorus_scene.proofs.Again.{and_join}
 use Rattle.chorus_scene.proofs.Spelled.{both}
 
 pub all_at : {X : Type 0} (p : X → Bool) (xs : List X) (i : ℕ) (d : X) → list_all p xs ≡ true → i < length xs → p (get_or xs i d) ≡ true
 all_at p [] i d h lt = absurd (omega arith)
 all_at p (y ∷ ys) zero d h lt = (both (p y) (list_all p ys) h).0
 all_at p (y ∷ ys) (suc i) d h lt = all_at p ys i d (both (p y) (list_all p ys) h).1 (omega arith)
+
+-- lists that grow
+pub all_more : {X : Type 0} (p : X → Bool) (xs : List X) (x : X) → list_all p xs ≡ true → p x ≡ true → list_all p (xs ++ x ∷ []) ≡ true
+all_more p [] x h k = and_join _ _ k refl
+all_more p (y ∷ ys) x h k = let q = both (p y) (list_all p ys) h in and_join _ _ q.0 (all_more p ys x q.1 k)
+
+pub all_set : {X : Type 0} (p : X → Bool) (xs : List X) (i : ℕ) (x : X) → list_all p xs ≡ true → p x ≡ true → list_all p (set xs i x) ≡ true
+all_set p [] i x h k = h
+all_set p (y ∷ ys) zero x h k = and_join _ _ k (both (p y) (list_all p ys) h).1
+all_set p (y ∷ ys) (suc i) x h k = let q = both (p y) (list_all p ys) h in and_join _ _ q.0 (all_set p ys i x q.1 k)
 
 module _ (l : Layout) (n : ℕ) where
   -- what is left keeps the limits too

@@ -1,5 +1,5 @@
 -- A scenario that was read keeps the limits.
-use Rattle.std.proofs.Common.{◌≡◌, ℕ, zero, suc, ◌-◌, ◌<◌, ◌≤◌, Bool, true, false, not, ◌&&◌, ◌||◌, List, [], ◌∷◌, ◌++◌, ◌⊎◌, inl, inr, length, set, refl, sym, ◌∙◌, arith, subst, length-append, length-set, append_assoc}
+use Rattle.std.proofs.Common.{◌≡◌, ℕ, zero, suc, ◌-◌, ◌<◌, ◌≤◌, Bool, true, false, not, ◌&&◌, ◌||◌, List, [], ◌∷◌, ◌++◌, ◌⊎◌, inl, inr, length, set, refl, sym, ap, ◌∙◌, arith, subst, length-append, length-set, append_assoc}
 use Rattle.std.specs.Prelude.{nat_le}
 use Rattle.std.specs.List.{list_all}
 use Rattle.std.specs.Str.{bytes_eq}
@@ -9,6 +9,7 @@ use Rattle.std.proofs.lemmas.Bool.Decides.{nat_tests}
 use Rattle.std.proofs.lemmas.List.{append-nil}
 use Rattle.chorus_ui.specs.declared.layout.Layout.{Layout}
 use Rattle.chorus_entry.specs.declared.command.Command.{Command}
+use Rattle.chorus_entry.specs.declared.command.Command.TheVariants as commands
 use Rattle.chorus_scene.specs.declared.scenario.SetupLine.{SetupLine}
 use Rattle.chorus_scene.specs.declared.scenario.SetupLine.TheVariants as setups
 use Rattle.chorus_scene.specs.declared.scenario.Step as step
@@ -16,27 +17,18 @@ use Rattle.chorus_lines.specs.declared.word.Section.{Section}
 use Rattle.chorus_lines.specs.declared.word.Section.TheVariants as sections
 use Rattle.chorus_lines.specs.Text.{lines, is_text, is_skipped}
 use Rattle.chorus_scene.specs.Scene.{Scene, Script}
-use Rattle.chorus_scene.specs.Line.{Line, VersionLine, SitesLine, PortLine, GroupLine, MemberLine, ScriptLine, CommandLine, ClaimLine, ScheduleLine, StepLine, EndLine}
-use Rattle.chorus_scene.specs.Grammar.{State, opening, after, with_command, last_script, no_script, is_claimed}
+use Rattle.chorus_scene.specs.Line.{Line, VersionLine, SitesLine, PortLine, GroupLine, MemberLine, ScriptLine, CommandLine, AwaitLine, ClaimLine, ScheduleLine, StepLine, EndLine}
+use Rattle.chorus_scene.specs.Grammar.{State, opening, after, with_last, with_command, with_await, last_script, no_script, is_claimed}
 use Rattle.chorus_scene.specs.Laws.{Pass}
-use Rattle.chorus_scene.specs.Limits.{is_actor_of, command_keeps, script_keeps, setup_line_keeps, setup_keeps, is_claim, none_twice, step_keeps, schedule_keeps, Keeps, ReadKeeps}
+use Rattle.chorus_scene.specs.Limits.{is_actor_of, command_keeps, script_keeps, setup_line_keeps, setup_keeps, is_claim, none_twice, step_keeps, schedule_keeps, waits_keep, Keeps, ReadKeeps, OldTextsDoNotWait}
 use Rattle.chorus_scene.proofs.Again.{and_join, or_first, or_second}
 use Rattle.chorus_scene.proofs.Next.{neither}
 use Rattle.chorus_scene.proofs.Sofar.{IsBeforeSchedule}
 use Rattle.chorus_scene.proofs.Spelled.{both}
-use Rattle.chorus_scene.proofs.Keeping.{all_at}
+use Rattle.chorus_scene.proofs.Keeping.{all_at, all_more, all_set}
+use Rattle.chorus_scene.proofs.Waits.{waits_command, waits_await, no_script_waits}
 use Rattle.chorus_scene.proofs.Fits.{IsCounted, Fits, fits, so_not, un_not}
 use Rattle.chorus_scene.proofs.Law.{Tidy, tidy_at, early_parts, Stays, Said, line_said, inv_text, inv_judge, section_ended}
-
--- lists that grow
-all_more : {X : Type 0} (p : X → Bool) (xs : List X) (x : X) → list_all p xs ≡ true → p x ≡ true → list_all p (xs ++ x ∷ []) ≡ true
-all_more p [] x h k = and_join _ _ k refl
-all_more p (y ∷ ys) x h k = let q = both (p y) (list_all p ys) h in and_join _ _ q.0 (all_more p ys x q.1 k)
-
-all_set : {X : Type 0} (p : X → Bool) (xs : List X) (i : ℕ) (x : X) → list_all p xs ≡ true → p x ≡ true → list_all p (set xs i x) ≡ true
-all_set p [] i x h k = h
-all_set p (y ∷ ys) zero x h k = and_join _ _ k (both (p y) (list_all p ys) h).1
-all_set p (y ∷ ys) (suc i) x h k = let q = both (p y) (list_all p ys) h in and_join _ _ q.0 (all_set p ys i x q.1 k)
 
 module _ (l : Layout) (n : ℕ) where
   setup_more : (before lines : List SetupLine) (line : SetupLine) → setup_keeps l n before lines ≡ true → setup_line_keeps l n (before ++ lines) line ≡ true → setup_keeps l n before (lines ++ line ∷ []) ≡ true
@@ -64,11 +56,12 @@ script_more l version n command s h k lt =
     let q = both (is_actor_of l n s.actor) (nat_le (length s.commands) 4096) p.0 in
     and_join _ _ (and_join _ _ q.0 (so_few (length (s.commands ++ command ∷ [])) 4096 (omega (arith, length-append s.commands (command ∷ []))))) (all_more (command_keeps l version n) s.commands command p.1 k)
 
-last_more : (l : Layout) (version n : ℕ) (command : Command) (scripts : List Script) → 0 < length scripts → list_all (script_keeps l version n) scripts ≡ true → command_keeps l version n command ≡ true → length (last_script scripts).commands < 4096
-    → list_all (script_keeps l version n) (set scripts (length scripts - 1) (with_command command (last_script scripts))) ≡ true
-last_more l version n command scripts some h k lt =
-    all_set (script_keeps l version n) scripts (length scripts - 1) (with_command command (last_script scripts)) h
-    (script_more l version n command (last_script scripts) (all_at (script_keeps l version n) scripts (length scripts - 1) no_script h (omega arith)) k lt)
+-- the last script changes, and keeps its limits
+last_more : (keeps : Script → Bool) (change : Script → Script) (scripts : List Script) → 0 < length scripts → list_all keeps scripts ≡ true → (keeps (last_script scripts) ≡ true → keeps (change (last_script scripts)) ≡ true)
+    → list_all keeps (set scripts (length scripts - 1) (change (last_script scripts))) ≡ true
+last_more keeps change scripts some h more =
+    all_set keeps scripts (length scripts - 1) (change (last_script scripts)) h
+    (more (all_at keeps scripts (length scripts - 1) no_script h (omega arith)))
 
 -- the version and the sites, as far as the lines have said them
 abbrev BoundIn : Section → Scene → Type 0
@@ -93,6 +86,7 @@ record Within (s : State) : Type 0 where
   setup : setup_keeps s.scene.layout s.scene.sites [] s.scene.setup ≡ true
   few_scripts : length s.scene.scripts ≤ 16
   scripts : list_all (script_keeps s.scene.layout s.scene.version s.scene.sites) s.scene.scripts ≡ true
+  waits : list_all (waits_keep s.scene.version) s.scene.scripts ≡ true
   claims : Claims s.scene
   few_steps : length s.scene.schedule ≤ 131072
   schedule : schedule_keeps s.scene.layout s.scene.sites s.scene.scripts [] s.scene.schedule ≡ true
@@ -147,6 +141,35 @@ claim_more c text k f = record {
   once = once_more c.claims text k.once f.2;
 }
 
+-- a script that has just begun has no awaits
+no_waits : (version : ℕ) → (nat_le 3 version || true) ≡ true
+no_waits version = go (nat_le 3 version)
+  where
+    go : (b : Bool) → (b || true) ≡ true
+    go true = refl
+    go false = refl
+
+-- a line of the last script more
+script_line : (s : State) (change : Script → Script) → s.section ≡ sections.Scripts → Tidy (with_last change s) → Within s
+    → (script_keeps s.scene.layout s.scene.version s.scene.sites (last_script s.scene.scripts) ≡ true → script_keeps s.scene.layout s.scene.version s.scene.sites (change (last_script s.scene.scripts)) ≡ true)
+    → (waits_keep s.scene.version (last_script s.scene.scripts) ≡ true → waits_keep s.scene.version (change (last_script s.scene.scripts)) ≡ true)
+    → Within (with_last change s)
+script_line s change e tidy w more waits =
+    let b = bound_at sections.Scripts s e w in
+    let t = tidy_at sections.Scripts s e w.tidy in
+    let now = set s.scene.scripts (length s.scene.scripts - 1) (change (last_script s.scene.scripts)) in
+    record {
+      tidy = tidy;
+      bound = b;
+      setup = w.setup;
+      few_scripts = omega (arith, w.few_scripts, length-set s.scene.scripts (length s.scene.scripts - 1) (change (last_script s.scene.scripts)));
+      scripts = last_more (script_keeps s.scene.layout s.scene.version s.scene.sites) change s.scene.scripts t.0 w.scripts more;
+      waits = last_more (waits_keep s.scene.version) change s.scene.scripts t.0 w.waits waits;
+      claims = no_claims (with_last change s).scene t.2;
+      few_steps = w.few_steps;
+      schedule = no_steps s.scene.layout s.scene.sites now s.scene.schedule t.1;
+    }
+
 -- a line more
 more : (s : State) (x : Line) → Within s → Stays s x → Fits s.scene x → Within (after s x)
 more s (VersionLine v) w st f =
@@ -157,6 +180,7 @@ more s (VersionLine v) w st f =
       setup = w.setup;
       few_scripts = w.few_scripts;
       scripts = no_scripts s.scene.layout v s.scene.sites s.scene.scripts t.1;
+      waits = ap (list_all (waits_keep v)) t.1;
       claims = no_claims (after s (VersionLine v)).scene t.3;
       few_steps = w.few_steps;
       schedule = w.schedule;
@@ -170,6 +194,7 @@ more s (SitesLine n) w st f =
       setup = no_setup s.scene.layout n s.scene.setup t.0;
       few_scripts = w.few_scripts;
       scripts = no_scripts s.scene.layout s.scene.version n s.scene.scripts t.1;
+      waits = w.waits;
       claims = no_claims (after s (SitesLine n)).scene t.3;
       few_steps = w.few_steps;
       schedule = no_steps s.scene.layout n s.scene.scripts s.scene.schedule t.2;
@@ -182,6 +207,7 @@ more s (PortLine u actor capacity) w st f =
       setup = setup_more s.scene.layout s.scene.sites [] s.scene.setup (setups.Port actor capacity) w.setup (f b.2);
       few_scripts = w.few_scripts;
       scripts = w.scripts;
+      waits = w.waits;
       claims = no_claims (after s (PortLine u actor capacity)).scene (tidy_at sections.Setup s st.0.0 w.tidy).2;
       few_steps = w.few_steps;
       schedule = w.schedule;
@@ -194,6 +220,7 @@ more s (GroupLine u) w st f =
       setup = setup_more s.scene.layout s.scene.sites [] s.scene.setup (setups.Group u.site) w.setup (f b.2);
       few_scripts = w.few_scripts;
       scripts = w.scripts;
+      waits = w.waits;
       claims = no_claims (after s (GroupLine u)).scene (tidy_at sections.Setup s st.0.0 w.tidy).2;
       few_steps = w.few_steps;
       schedule = w.schedule;
@@ -206,6 +233,7 @@ more s (MemberLine group port) w st f =
       setup = setup_more s.scene.layout s.scene.sites [] s.scene.setup (setups.Member group port) w.setup (f b.2);
       few_scripts = w.few_scripts;
       scripts = w.scripts;
+      waits = w.waits;
       claims = no_claims (after s (MemberLine group port)).scene (tidy_at sections.Setup s st.0.0 w.tidy).2;
       few_steps = w.few_steps;
       schedule = w.schedule;
@@ -213,37 +241,34 @@ more s (MemberLine group port) w st f =
 more s (ScriptLine actor) w st f =
     let b = bound_early s st.0 w in
     let none : List Command = [] in
-    let script : Script = record { actor = actor; commands = none } in
+    let script : Script = record { actor = actor; commands = none; waits = [] } in
     record {
       tidy = st.1;
       bound = b;
       setup = w.setup;
       few_scripts = omega (arith, f.1, length-append s.scene.scripts (script ∷ []));
       scripts = all_more (script_keeps s.scene.layout s.scene.version s.scene.sites) s.scene.scripts script w.scripts (and_join _ _ (and_join _ _ (f.0 b.2) refl) refl);
+      waits = all_more (waits_keep s.scene.version) s.scene.scripts script w.waits (no_waits s.scene.version);
       claims = no_claims (after s (ScriptLine actor)).scene (early_parts s st.0 w.tidy).1;
       few_steps = w.few_steps;
       schedule = no_steps s.scene.layout s.scene.sites (s.scene.scripts ++ script ∷ []) s.scene.schedule ((early_parts s st.0 w.tidy).0);
     }
 more s (CommandLine command) w st f =
     let b = bound_at sections.Scripts s st.0.0 w in
-    let t = tidy_at sections.Scripts s st.0.0 w.tidy in
-    let now = set s.scene.scripts (length s.scene.scripts - 1) (with_command command (last_script s.scene.scripts)) in
-    record {
-      tidy = st.1;
-      bound = b;
-      setup = w.setup;
-      few_scripts = omega (arith, w.few_scripts, length-set s.scene.scripts (length s.scene.scripts - 1) (with_command command (last_script s.scene.scripts)));
-      scripts = last_more s.scene.layout s.scene.version s.scene.sites command s.scene.scripts t.0 w.scripts (f.0 b.2) f.1;
-      claims = no_claims (after s (CommandLine command)).scene t.2;
-      few_steps = w.few_steps;
-      schedule = no_steps s.scene.layout s.scene.sites now s.scene.schedule t.1;
-    }
+    script_line s (with_command command) st.0.0 st.1 w
+    (λ h. script_more s.scene.layout s.scene.version s.scene.sites command (last_script s.scene.scripts) h (f.0 b.2) f.1)
+    (waits_command s.scene.version command (last_script s.scene.scripts))
+more s (AwaitLine port) w st f =
+    script_line s (with_await port) st.0.0 st.1 w
+    (λ h. script_more s.scene.layout s.scene.version s.scene.sites (commands.Take port) (last_script s.scene.scripts) h f.0 f.1)
+    (waits_await s.scene.version port (last_script s.scene.scripts) f.2)
 more s (ClaimLine text) w st f = record {
   tidy = st.1;
   bound = bound_before s st.0 w;
   setup = w.setup;
   few_scripts = w.few_scripts;
   scripts = w.scripts;
+  waits = w.waits;
   claims = claim_more s.scene text w.claims f;
   few_steps = w.few_steps;
   schedule = w.schedule;
@@ -254,6 +279,7 @@ more s ScheduleLine w st f = record {
   setup = w.setup;
   few_scripts = w.few_scripts;
   scripts = w.scripts;
+  waits = w.waits;
   claims = w.claims;
   few_steps = w.few_steps;
   schedule = w.schedule;
@@ -264,6 +290,7 @@ more s (StepLine step) w st f = record {
   setup = w.setup;
   few_scripts = w.few_scripts;
   scripts = w.scripts;
+  waits = w.waits;
   claims = step_claims s.scene (s.scene.schedule ++ step ∷ []) w.claims;
   few_steps = omega (arith, f.1, length-append s.scene.schedule (step ∷ []));
   schedule = schedule_more s.scene.layout s.scene.sites s.scene.scripts [] s.scene.schedule step w.schedule f.0;
@@ -274,6 +301,7 @@ more s EndLine w st f = record {
   setup = w.setup;
   few_scripts = w.few_scripts;
   scripts = w.scripts;
+  waits = w.waits;
   claims = w.claims;
   few_steps = w.few_steps;
   schedule = w.schedule;
@@ -299,6 +327,7 @@ ended_keeps t e w =
       setup = w.setup;
       few_scripts = w.few_scripts;
       scripts = w.scripts;
+      waits = w.waits;
       claims_from_three = w.claims.from_three;
       few_claims = w.claims.few;
       claims = w.claims.each;
@@ -311,5 +340,8 @@ pub kept : ReadKeeps
 kept l text c h =
     let i = inv_text l text c h in
     let p = inv_judge 1 (opening l) (lines text) c i.1 in
-    let w = all_more_lines (opening l) p.0 (lines text) (record { tidy = (refl, refl, refl, refl); bound = tt; setup = refl; few_scripts = omega arith; scripts = refl; claims = no_claims (opening l).scene refl; few_steps = omega arith; schedule = refl }) p.1 in
+    let w = all_more_lines (opening l) p.0 (lines text) (record { tidy = (refl, refl, refl, refl); bound = tt; setup = refl; few_scripts = omega arith; scripts = refl; waits = refl; claims = no_claims (opening l).scene refl; few_steps = omega arith; schedule = refl }) p.1 in
     subst Keeps p.3 (ended_keeps p.0 (section_ended p.0.section p.2) w)
+
+pub old_do_not_wait : OldTextsDoNotWait
+old_do_not_wait l text c h old = no_script_waits c.version c.scripts old (kept l text c h).waits

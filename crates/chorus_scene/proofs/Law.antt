@@ -8,6 +8,7 @@ use Rattle.std.proofs.lemmas.Bool.Decides.{nat_tests}
 use Rattle.std.proofs.lemmas.Slice.Eq.{bytes_eq-Decides}
 use Rattle.chorus_ui.specs.Name.{same_ui}
 use Rattle.chorus_ui.specs.declared.layout.Layout.{Layout}
+use Rattle.chorus_ui.specs.declared.ui.Ui.{Ui}
 use Rattle.chorus_ui.proofs.Names.{from_same_ui}
 use Rattle.chorus_entry.specs.declared.command.Command.{Command}
 use Rattle.chorus_scene.specs.declared.scenario.Step.TheVariants as steps
@@ -22,10 +23,10 @@ use Rattle.chorus_lines.specs.declared.word.Reason.TheVariants as reasons
 use Rattle.chorus_lines.specs.Text.{cut, lines, fields, number_in, each_byte, is_plain, is_text, is_skipped}
 use Rattle.chorus_scene.specs.Scene.{Scene}
 use Rattle.chorus_scene.specs.Making.{next_port, next_group}
-use Rattle.chorus_scene.specs.Line.{Line, VersionLine, SitesLine, PortLine, GroupLine, MemberLine, ScriptLine, CommandLine, ClaimLine, ScheduleLine, StepLine, EndLine, name_in, command_of, line_of, cuts, wants, has_body, field}
+use Rattle.chorus_scene.specs.Line.{Line, VersionLine, SitesLine, PortLine, GroupLine, MemberLine, ScriptLine, CommandLine, AwaitLine, ClaimLine, ScheduleLine, StepLine, EndLine, name_in, command_of, line_of, cuts, wants, has_body, field}
 use Rattle.chorus_lines.specs.Words.{word_of, may_stand}
 use Rattle.chorus_ui.specs.declared.kind.Kind.TheVariants as kinds
-use Rattle.chorus_scene.specs.Grammar.{State, opening, made, or_at, judge, read_scene, is_ended, judge_fields, judge_line, judge_head, judge_word, unless, is_head, next, then_after, after, with_command, last_script, is_not_given}
+use Rattle.chorus_scene.specs.Grammar.{State, opening, made, or_at, judge, read_scene, is_ended, judge_fields, judge_line, judge_head, judge_word, unless, is_head, next, then_after, after, with_command, with_await, last_script, no_script, is_not_given}
 use Rattle.chorus_scene.specs.Laws.{Pass, PrintedAgain}
 use Rattle.chorus_scene.specs.Print.{behind, text_of, joined, printed}
 use Rattle.chorus_scene.proofs.Spelled.{lacks, both, marked, uncut, cut_join, cut_all, cut_lacks, behind_fields, is_line, are_lines, lines_joined, total, total-append, total_lines, length_joined}
@@ -35,6 +36,9 @@ use Rattle.chorus_scene.proofs.Again.{Passes, Again, clear, as_printed, again, l
 use Rattle.chorus_scene.proofs.Fits.{Tested, not_so}
 use Rattle.chorus_scene.proofs.Next.{next_is}
 use Rattle.chorus_scene.proofs.Order.{accepted}
+use Rattle.std.specs.List.{list_all}
+use Rattle.chorus_scene.proofs.Keeping.{all_at, all_more, all_set}
+use Rattle.chorus_scene.proofs.Waits.{waits_below, command_below, await_below}
 use Rattle.chorus_scene.proofs.Sofar.{Follows, IsBeforeSchedule, texts_in, grows}
 
 -- where a word may stand
@@ -46,6 +50,7 @@ Allowed words.Group sec = sec ≡ sections.Setup
 Allowed words.Member sec = sec ≡ sections.Setup
 Allowed words.Script sec = (sec ≡ sections.Setup) ⊎ (sec ≡ sections.Scripts)
 Allowed (words.Command verb) sec = sec ≡ sections.Scripts
+Allowed words.Await sec = sec ≡ sections.Scripts
 Allowed words.Claim sec = ((sec ≡ sections.Setup) ⊎ (sec ≡ sections.Scripts)) ⊎ (sec ≡ sections.Claims)
 Allowed words.Schedule sec = ((sec ≡ sections.Setup) ⊎ (sec ≡ sections.Scripts)) ⊎ (sec ≡ sections.Claims)
 Allowed words.Step sec = sec ≡ sections.Schedule
@@ -63,6 +68,7 @@ allowed sections.Setup words.Claim h = inl (inl refl)
 allowed sections.Setup words.Schedule h = inl (inl refl)
 allowed sections.Scripts words.Script h = inr refl
 allowed sections.Scripts (words.Command verb) h = refl
+allowed sections.Scripts words.Await h = refl
 allowed sections.Scripts words.Claim h = inl (inr refl)
 allowed sections.Scripts words.Schedule h = inl (inr refl)
 allowed sections.Claims words.Claim h = inr refl
@@ -78,7 +84,7 @@ abbrev pub TidyIn : Section → Scene → Type 0
 TidyIn sections.Head c = (c.setup ≡ []) × (c.scripts ≡ []) × (c.schedule ≡ []) × (c.claims ≡ [])
 TidyIn sections.Sites c = (c.setup ≡ []) × (c.scripts ≡ []) × (c.schedule ≡ []) × (c.claims ≡ [])
 TidyIn sections.Setup c = (c.scripts ≡ []) × (c.schedule ≡ []) × (c.claims ≡ [])
-TidyIn sections.Scripts c = (0 < length c.scripts) × (c.schedule ≡ []) × (c.claims ≡ [])
+TidyIn sections.Scripts c = (0 < length c.scripts) × (c.schedule ≡ []) × (c.claims ≡ []) × (list_all waits_below c.scripts ≡ true)
 TidyIn sections.Claims c = c.schedule ≡ []
 TidyIn sections.Schedule c = Unit {0}
 TidyIn sections.Ended c = Unit {0}
@@ -92,6 +98,11 @@ tidy_at sec s e t = rw e at t
 pub early_parts : (s : State) → (s.section ≡ sections.Setup) ⊎ (s.section ≡ sections.Scripts) → Tidy s → (s.scene.schedule ≡ []) × (s.scene.claims ≡ [])
 early_parts s (inl e) t = let k = tidy_at sections.Setup s e t in (k.1, k.2)
 early_parts s (inr e) t = let k = tidy_at sections.Scripts s e t in (k.1, k.2)
+
+-- all awaits are below the next command
+scripts_below : (s : State) → (s.section ≡ sections.Setup) ⊎ (s.section ≡ sections.Scripts) → Tidy s → list_all waits_below s.scene.scripts ≡ true
+scripts_below s (inl e) t = ap (list_all waits_below) (tidy_at sections.Setup s e t).0
+scripts_below s (inr e) t = (tidy_at sections.Scripts s e t).3
 
 before_schedule_parts : (s : State) → ((s.section ≡ sections.Setup) ⊎ (s.section ≡ sections.Scripts)) ⊎ (s.section ≡ sections.Claims) → Tidy s → IsBeforeSchedule s × (s.scene.schedule ≡ [])
 before_schedule_parts s (inl e) t = let k = early_parts s e t in (inl (e, k.1), k.0)
@@ -108,7 +119,18 @@ module _ (s : State) (t : Tidy s) (fs : List (List ℕ)) (x : Line) (judged : ju
   command_stays : (command : Command) → CommandLine command ≡ x → s.section ≡ sections.Scripts → Stays s x
   command_stays command same e =
       let k = tidy_at sections.Scripts s e t in
-      subst (Stays s) same ((e, k.0), (rw (length-set s.scene.scripts (length s.scene.scripts - 1) (with_command command (last_script s.scene.scripts))) k.0, k.1, k.2))
+      let last = last_script s.scene.scripts in
+      let new = with_command command last in
+      let below = all_at waits_below s.scene.scripts (length s.scene.scripts - 1) no_script k.3 (omega (arith, k.0)) in
+      subst (Stays s) same ((e, k.0, below), (rw (length-set s.scene.scripts (length s.scene.scripts - 1) new) k.0, k.1, k.2, all_set waits_below s.scene.scripts (length s.scene.scripts - 1) new k.3 (command_below command last below)))
+
+  await_stays : (port : Ui) → AwaitLine port ≡ x → s.section ≡ sections.Scripts → Stays s x
+  await_stays port same e =
+      let k = tidy_at sections.Scripts s e t in
+      let last = last_script s.scene.scripts in
+      let new = with_await port last in
+      let below = all_at waits_below s.scene.scripts (length s.scene.scripts - 1) no_script k.3 (omega (arith, k.0)) in
+      subst (Stays s) same ((e, k.0), (rw (length-set s.scene.scripts (length s.scene.scripts - 1) new) k.0, k.1, k.2, all_set waits_below s.scene.scripts (length s.scene.scripts - 1) new k.3 (await_below port last below)))
 
   stays_by : (w : Word) → Allowed w s.section → line_of w fs ≡ Some x → Stays s x
   stays_by words.Chorus e h = absurd e
@@ -132,8 +154,9 @@ module _ (s : State) (t : Tidy s) (fs : List (List ℕ)) (x : Line) (judged : ju
       subst (Stays s) p.4 ((e, k.0), (k.0, k.1, k.2))
   stays_by words.Script e h =
       let p = inv_map ScriptLine (name_in kinds.Actor (field 0 fs)) x h in
-      subst (Stays s) p.2 (e, (omega (arith, length-append s.scene.scripts (record { actor = p.0; commands = [] } ∷ [])), (early_parts s e t).0, (early_parts s e t).1))
+      subst (Stays s) p.2 (e, (omega (arith, length-append s.scene.scripts (record { actor = p.0; commands = []; waits = [] } ∷ [])), (early_parts s e t).0, (early_parts s e t).1, all_more waits_below s.scene.scripts (record { actor = p.0; commands = []; waits = [] }) (scripts_below s e t) refl))
   stays_by (words.Command verb) e h = let p = inv_map CommandLine (command_of verb fs) x h in command_stays p.0 p.2 e
+  stays_by words.Await e h = let p = inv_map AwaitLine (name_in kinds.Port (field 0 fs)) x h in await_stays p.0 p.2 e
   stays_by words.Claim e h = let k = before_schedule_parts s e t in subst (Stays s) (bare x (ClaimLine (field 0 fs)) h) (k.0, k.1)
   stays_by words.Schedule e h = subst (Stays s) (bare x ScheduleLine h) (before_schedule_parts s e t, tt)
   stays_by words.Step e h = let p = inv_map (λ n. StepLine (steps.Step n)) (number_in (field 0 fs)) x h in subst (Stays s) p.2 (e, tt)
@@ -388,6 +411,7 @@ layout_stays s (GroupLine u) = refl
 layout_stays s (MemberLine group port) = refl
 layout_stays s (ScriptLine actor) = refl
 layout_stays s (CommandLine command) = refl
+layout_stays s (AwaitLine port) = refl
 layout_stays s (ClaimLine text) = refl
 layout_stays s ScheduleLine = refl
 layout_stays s (StepLine step) = refl

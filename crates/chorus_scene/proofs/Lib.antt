@@ -13,4 +13,5 @@ pub mod Fits
 pub mod Sofar
 pub mod Law
 pub mod Keeping
+pub mod Waits
 pub mod Kept

@@ -1,20 +1,20 @@
 -- The lines that a scenario is printed as grow by the text of each line that is read.
-use Rattle.std.proofs.Common.{◌≡◌, ℕ, zero, suc, ◌+◌, ◌-◌, ◌<◌, List, [], ◌∷◌, ◌++◌, ◌⊎◌, inl, inr, length, get_or, set, map, refl, sym, ap, ◌∙◌, arith, append_assoc}
+use Rattle.std.proofs.Common.{◌≡◌, ℕ, zero, suc, ◌+◌, ◌-◌, ◌<◌, true, List, [], ◌∷◌, ◌++◌, ◌⊎◌, inl, inr, length, get_or, set, map, refl, sym, ap, ◌∙◌, arith, append_assoc}
 use Rattle.std.specs.Prelude.{codes}
 use Rattle.std.specs.List.{flat_map}
 use Rattle.std.proofs.lemmas.List.{map_push, append-nil}
 use Rattle.chorus_ui.specs.declared.ui.Ui.{Ui}
 use Rattle.chorus_ui.specs.declared.layout.Layout.{Layout}
-use Rattle.chorus_entry.specs.declared.command.Command.{Command}
 use Rattle.chorus_lines.specs.declared.word.Section.{Section}
 use Rattle.chorus_lines.specs.declared.word.Section.TheVariants as sections
 use Rattle.chorus_scene.specs.declared.scenario.SetupLine.{SetupLine}
 use Rattle.chorus_scene.specs.declared.scenario.SetupLine.TheVariants as setups
 use Rattle.chorus_scene.specs.Scene.{Scene, Script}
 use Rattle.chorus_scene.specs.Making.{makes, made_after, next_port, next_group}
-use Rattle.chorus_scene.specs.Line.{Line, VersionLine, SitesLine, PortLine, GroupLine, MemberLine, ScriptLine, CommandLine, ClaimLine, ScheduleLine, StepLine, EndLine}
-use Rattle.chorus_scene.specs.Grammar.{State, after, made, with_command, last_script, no_script}
-use Rattle.chorus_scene.specs.Print.{setup_text, setup_texts, script_texts, command_text, claim_text, step_text, version_text, sites_text, text_of, before_claims, before_schedule, scene_texts}
+use Rattle.chorus_scene.specs.Line.{Line, VersionLine, SitesLine, PortLine, GroupLine, MemberLine, ScriptLine, CommandLine, AwaitLine, ClaimLine, ScheduleLine, StepLine, EndLine}
+use Rattle.chorus_scene.specs.Grammar.{State, after, made, with_last, with_command, with_await, last_script, no_script}
+use Rattle.chorus_scene.proofs.Waits.{waits_below, one_command, one_await}
+use Rattle.chorus_scene.specs.Print.{setup_text, setup_texts, script_texts, command_text, await_text, claim_text, step_text, version_text, sites_text, text_of, before_claims, before_schedule, scene_texts}
 
 -- the lines that a scenario so far is printed as
 abbrev pub texts_in : Section → Scene → List (List ℕ)
@@ -34,18 +34,18 @@ flat_more : (scripts : List Script) (s : Script) → flat_map script_texts (scri
 flat_more [] s = append-nil (script_texts s)
 flat_more (x ∷ xs) s = rw (flat_more xs s) (sym (append_assoc (script_texts x) (flat_map script_texts xs) (script_texts s)))
 
-one_command : (c : Command) (s : Script) → script_texts (with_command c s) ≡ script_texts s ++ command_text c ∷ []
-one_command c s = ap (λ rest. text_of (ScriptLine s.actor) ∷ rest) (map_push command_text s.commands c)
+-- the last script is printed with one line more
+last_at : (change : Script → Script) (text : List ℕ) (scripts : List Script) (i : ℕ) → i + 1 ≡ length scripts → script_texts (change (get_or scripts i no_script)) ≡ script_texts (get_or scripts i no_script) ++ text ∷ []
+    → flat_map script_texts (set scripts i (change (get_or scripts i no_script))) ≡ flat_map script_texts scripts ++ text ∷ []
+last_at f t [] i e h = absurd (omega arith)
+last_at f t (x ∷ []) zero e h = append-nil (script_texts (f x)) ∙ h ∙ ap (λ rest. rest ++ t ∷ []) (sym (append-nil (script_texts x)))
+last_at f t (x ∷ []) (suc i) e h = absurd (omega arith)
+last_at f t (x ∷ y ∷ ys) zero e h = absurd (omega arith)
+last_at f t (x ∷ y ∷ ys) (suc i) e h = ap (λ rest. script_texts x ++ rest) (last_at f t (y ∷ ys) i (omega arith) h) ∙ sym (append_assoc (script_texts x) (flat_map script_texts (y ∷ ys)) (t ∷ []))
 
-last_at : (c : Command) (scripts : List Script) (i : ℕ) → i + 1 ≡ length scripts → flat_map script_texts (set scripts i (with_command c (get_or scripts i no_script))) ≡ flat_map script_texts scripts ++ command_text c ∷ []
-last_at c [] i e = absurd (omega arith)
-last_at c (x ∷ []) zero e = append-nil (script_texts (with_command c x)) ∙ one_command c x ∙ ap (λ rest. rest ++ command_text c ∷ []) (sym (append-nil (script_texts x)))
-last_at c (x ∷ []) (suc i) e = absurd (omega arith)
-last_at c (x ∷ y ∷ ys) zero e = absurd (omega arith)
-last_at c (x ∷ y ∷ ys) (suc i) e = ap (λ rest. script_texts x ++ rest) (last_at c (y ∷ ys) i (omega arith)) ∙ sym (append_assoc (script_texts x) (flat_map script_texts (y ∷ ys)) (command_text c ∷ []))
-
-last_more : (c : Command) (scripts : List Script) → 0 < length scripts → flat_map script_texts (set scripts (length scripts - 1) (with_command c (last_script scripts))) ≡ flat_map script_texts scripts ++ command_text c ∷ []
-last_more c scripts some = last_at c scripts (length scripts - 1) (omega arith)
+last_more : (change : Script → Script) (text : List ℕ) (scripts : List Script) → 0 < length scripts → script_texts (change (last_script scripts)) ≡ script_texts (last_script scripts) ++ text ∷ []
+    → flat_map script_texts (set scripts (length scripts - 1) (change (last_script scripts))) ≡ flat_map script_texts scripts ++ text ∷ []
+last_more f t scripts some h = last_at f t scripts (length scripts - 1) (omega arith) h
 
 -- the setup or the scripts, where nothing was claimed yet, or the claims
 abbrev pub IsBeforeSchedule : State → Type 0
@@ -59,7 +59,8 @@ Follows s (PortLine u actor capacity) = (s.section ≡ sections.Setup) × (s.sce
 Follows s (GroupLine u) = (s.section ≡ sections.Setup) × (s.scene.scripts ≡ []) × (u ≡ next_group s.scene.layout u.site (made s.scene))
 Follows s (MemberLine group port) = (s.section ≡ sections.Setup) × (s.scene.scripts ≡ [])
 Follows s (ScriptLine actor) = (s.section ≡ sections.Setup) ⊎ (s.section ≡ sections.Scripts)
-Follows s (CommandLine command) = (s.section ≡ sections.Scripts) × (0 < length s.scene.scripts)
+Follows s (CommandLine command) = (s.section ≡ sections.Scripts) × (0 < length s.scene.scripts) × (waits_below (last_script s.scene.scripts) ≡ true)
+Follows s (AwaitLine port) = (s.section ≡ sections.Scripts) × (0 < length s.scene.scripts)
 Follows s (ClaimLine text) = IsBeforeSchedule s
 Follows s ScheduleLine = IsBeforeSchedule s × (s.scene.schedule ≡ [])
 Follows s (StepLine step) = s.section ≡ sections.Schedule
@@ -85,6 +86,13 @@ setup_grows s line text section scripts same =
     ∙ ap (λ t. setup_texts s.scene.layout [] s.scene.setup ++ t ∷ []) same
     ∙ ap (λ rest. rest ++ text ∷ []) (sym (append-nil (setup_texts s.scene.layout [] s.scene.setup)))))
 
+-- a line of the last script more
+script_grows : (s : State) (change : Script → Script) (text : List ℕ) → s.section ≡ sections.Scripts → 0 < length s.scene.scripts → script_texts (change (last_script s.scene.scripts)) ≡ script_texts (last_script s.scene.scripts) ++ text ∷ []
+    → texts_in sections.Scripts (with_last change s).scene ≡ texts_in s.section s.scene ++ text ∷ []
+script_grows s change text section some more =
+    rw section (ap (λ rest. version_text s.scene.version ∷ sites_text s.scene.sites ∷ rest)
+    (ap (λ rest. setup_texts s.scene.layout [] s.scene.setup ++ rest) (last_more change text s.scene.scripts some more) ∙ sym (append_assoc (setup_texts s.scene.layout [] s.scene.setup) (flat_map script_texts s.scene.scripts) (text ∷ []))))
+
 pub grows : (s : State) (x : Line) → Follows s x → texts_in (after s x).section (after s x).scene ≡ texts_in s.section s.scene ++ text_of x ∷ []
 grows s (VersionLine v) h = rw h refl
 grows s (SitesLine n) h = rw (h.0, h.1, h.2) refl
@@ -94,10 +102,11 @@ grows s (MemberLine group port) h = setup_grows s (setups.Member group port) (te
 grows s (ScriptLine actor) h =
     let e = early_texts s.section s.scene h in
     rw e (ap (λ rest. version_text s.scene.version ∷ sites_text s.scene.sites ∷ rest)
-    (ap (λ rest. setup_texts s.scene.layout [] s.scene.setup ++ rest) (flat_more s.scene.scripts (record { actor = actor; commands = [] })) ∙ sym (append_assoc (setup_texts s.scene.layout [] s.scene.setup) (flat_map script_texts s.scene.scripts) (text_of (ScriptLine actor) ∷ []))))
+    (ap (λ rest. setup_texts s.scene.layout [] s.scene.setup ++ rest) (flat_more s.scene.scripts (record { actor = actor; commands = []; waits = [] })) ∙ sym (append_assoc (setup_texts s.scene.layout [] s.scene.setup) (flat_map script_texts s.scene.scripts) (text_of (ScriptLine actor) ∷ []))))
 grows s (CommandLine command) h =
-    rw h.0 (ap (λ rest. version_text s.scene.version ∷ sites_text s.scene.sites ∷ rest)
-    (ap (λ rest. setup_texts s.scene.layout [] s.scene.setup ++ rest) (last_more command s.scene.scripts h.1) ∙ sym (append_assoc (setup_texts s.scene.layout [] s.scene.setup) (flat_map script_texts s.scene.scripts) (command_text command ∷ []))))
+    script_grows s (with_command command) (command_text command) h.0 h.1 (one_command command (last_script s.scene.scripts) h.2)
+grows s (AwaitLine port) h =
+    script_grows s (with_await port) (await_text port) h.0 h.1 (one_await port (last_script s.scene.scripts))
 grows s (ClaimLine text) h =
     let e = texts_before s h in
     rw e (ap (λ rest. before_claims s.scene ++ rest) (map_push claim_text s.scene.claims text) ∙ sym (append_assoc (before_claims s.scene) (map claim_text s.scene.claims) (claim_text text ∷ [])))

@@ -34,6 +34,7 @@ word_text words.Port = codes "port"
 word_text words.Group = codes "group"
 word_text words.Member = codes "member"
 word_text words.Script = codes "script"
+word_text words.Await = codes "await"
 word_text words.Claim = codes "claim"
 word_text words.Schedule = codes "schedule"
 word_text words.Step = codes "step"
@@ -79,10 +80,11 @@ inv_command : (version : ℕ) (text : List ℕ) (o : Option Verb) (w : Word) →
 inv_command version text None w spelled h = absurd cc
 inv_command version text (Some v) w spelled h = let e : words.Command v ≡ w = cc in spelled v refl ∙ ap word_text e
 
-claim_by : (three b : Bool) (text : List ℕ) (w : Word) (r : Option Word) → (b ≡ true → text ≡ codes "claim") → cond b (cond three (Some words.Claim) None) r ≡ Some w → (r ≡ Some w → text ≡ word_text w) → text ≡ word_text w
-claim_by true true text w r same h rest = let e : words.Claim ≡ w = cc in same refl ∙ ap word_text e
-claim_by false true text w r same h rest = absurd cc
-claim_by three false text w r same h rest = rest h
+-- a word from version 3 on
+later_by : (x : Word) (three b : Bool) (text : List ℕ) (w : Word) (r : Option Word) → (b ≡ true → text ≡ word_text x) → cond b (cond three (Some x) None) r ≡ Some w → (r ≡ Some w → text ≡ word_text w) → text ≡ word_text w
+later_by x true true text w r same h rest = let e : x ≡ w = cc in same refl ∙ ap word_text e
+later_by x false true text w r same h rest = absurd cc
+later_by x three false text w r same h rest = rest h
 
 pub word_spelled : (version : ℕ) (text : List ℕ) (w : Word) → word_of version text ≡ Some w → text ≡ word_text w
 unfolding word_of
@@ -98,8 +100,9 @@ word_spelled version text w h0 =
     step word_text text w (bytes_eq text (codes "deliver")) (codes "deliver") words.Deliver _ (same_text text (codes "deliver")) refl h8 (λ h9.
     step word_text text w (bytes_eq text (codes "drain")) (codes "drain") words.Drain _ (same_text text (codes "drain")) refl h9 (λ h10.
     step word_text text w (bytes_eq text (codes "end")) (codes "end") words.End _ (same_text text (codes "end")) refl h10 (λ h11.
-    claim_by (nat_le 3 version) (bytes_eq text (codes "claim")) text w _ (same_text text (codes "claim")) h11 (λ h12.
-    inv_command version text (verb_of version text) w (verb_spelled version text) h12))))))))))))
+    later_by words.Claim (nat_le 3 version) (bytes_eq text (codes "claim")) text w _ (same_text text (codes "claim")) h11 (λ h12.
+    later_by words.Await (nat_le 3 version) (bytes_eq text (codes "await")) text w _ (same_text text (codes "await")) h12 (λ h13.
+    inv_command version text (verb_of version text) w (verb_spelled version text) h13)))))))))))))
 
 verb_some : (v : Verb) → 0 < length (verb_text v)
 verb_some (verbs.Send targets.Port) = omega arith
@@ -125,6 +128,7 @@ word_some words.Port = omega arith
 word_some words.Group = omega arith
 word_some words.Member = omega arith
 word_some words.Script = omega arith
+word_some words.Await = omega arith
 word_some words.Claim = omega arith
 word_some words.Schedule = omega arith
 word_some words.Step = omega arith
@@ -133,7 +137,7 @@ word_some words.Drain = omega arith
 word_some words.End = omega arith
 word_some (words.Command v) = verb_some v
 
--- delete is a word from version 2 on, and claim from version 3 on
+-- delete is a word from version 2 on, claim and await from version 3 on
 of_two : (b : Bool) → option_map words.Command (if b then Some verbs.Delete else None) ≡ Some (words.Command verbs.Delete) → b ≡ true
 of_two true h = refl
 of_two false h = absurd (let e : ◌≡◌ {A = Option Word} None (Some (words.Command verbs.Delete)) = h in cc)
@@ -144,12 +148,18 @@ delete_from_two version text h =
     let here : word_of version (codes "delete") ≡ Some (words.Command verbs.Delete) = subst (λ xs. word_of version xs ≡ Some (words.Command verbs.Delete)) (word_spelled version text (words.Command verbs.Delete) h) h in
     of_two (nat_le 2 version) here
 
-of_three : (b : Bool) → ◌≡◌ {A = Option Word} (if b then Some words.Claim else None) (Some words.Claim) → b ≡ true
-of_three true h = refl
-of_three false h = absurd cc
+of_three : (w : Word) (b : Bool) → ◌≡◌ {A = Option Word} (if b then Some w else None) (Some w) → b ≡ true
+of_three w true h = refl
+of_three w false h = absurd cc
 
 pub claim_from_three : (version : ℕ) (text : List ℕ) → word_of version text ≡ Some words.Claim → nat_le 3 version ≡ true
 unfolding word_of
 claim_from_three version text h =
     let here : word_of version (codes "claim") ≡ Some words.Claim = subst (λ xs. word_of version xs ≡ Some words.Claim) (word_spelled version text words.Claim h) h in
-    of_three (nat_le 3 version) here
+    of_three words.Claim (nat_le 3 version) here
+
+pub await_from_three : (version : ℕ) (text : List ℕ) → word_of version text ≡ Some words.Await → nat_le 3 version ≡ true
+unfolding word_of
+await_from_three version text h =
+    let here : word_of version (codes "await") ≡ Some words.Await = subst (λ xs. word_of version xs ≡ Some words.Await) (word_spelled version text words.Await h) h in
+    of_three words.Await (nat_le 3 version) here

@@ -30,7 +30,7 @@ use Rattle.chorus_lines.specs.Reasons.{reason_number}
 use Rattle.chorus_claims.specs.Shapes.{fault_of}
 use Rattle.chorus_scene.specs.Scene.{Scene, Script}
 use Rattle.chorus_scene.specs.Making.{next_port, next_group, made_after, members_of}
-use Rattle.chorus_scene.specs.Line.{Line, VersionLine, SitesLine, PortLine, GroupLine, MemberLine, ScriptLine, CommandLine, ClaimLine, ScheduleLine, StepLine, EndLine, cuts, is_misshapen, line_of}
+use Rattle.chorus_scene.specs.Line.{Line, VersionLine, SitesLine, PortLine, GroupLine, MemberLine, ScriptLine, CommandLine, AwaitLine, ClaimLine, ScheduleLine, StepLine, EndLine, cuts, is_misshapen, line_of}
 use Rattle.chorus_lines.specs.Words.{word_of, may_stand}
 
 -- what the lines so far have said, and the section that they came to
@@ -57,7 +57,7 @@ abbrev pub made : Scene → List Ui
 made c = made_after c.layout [] c.setup
 
 abbrev pub no_script : Script
-no_script = record { actor = record { site = 0; kind = kinds.Actor; number = 0 }; commands = [] }
+no_script = record { actor = record { site = 0; kind = kinds.Actor; number = 0 }; commands = []; waits = [] }
 
 -- the script of a number from 1, and the last one
 abbrev pub script_at : ℕ → List Script → Script
@@ -139,6 +139,7 @@ is_beyond c (GroupLine u) = nat_lt GROUPS_PER_SITE_LIMIT u.number
 is_beyond c (MemberLine group port) = nat_le MEMBERS_LIMIT (length (members_of group c.setup))
 is_beyond c (ScriptLine actor) = nat_le SCRIPTS_LIMIT (length c.scripts)
 is_beyond c (CommandLine command) = last_is_full c || command_is_beyond c.version command
+is_beyond c (AwaitLine port) = last_is_full c
 is_beyond c (ClaimLine text) = is_for reasons.Limit (claim_fault c text) || nat_le CLAIMS_LIMIT (length c.claims)
 is_beyond c (StepLine step) = nat_le STEPS_LIMIT (length c.schedule) || step_is_beyond step
 is_beyond c _ = false
@@ -185,6 +186,7 @@ names_unknown c (GroupLine u) = is_far c u
 names_unknown c (MemberLine group port) = not (is_known c group) || not (is_known c port)
 names_unknown c (ScriptLine actor) = is_no_actor c actor
 names_unknown c (CommandLine command) = command_is_unknown c command
+names_unknown c (AwaitLine port) = is_far c port
 names_unknown c (ClaimLine text) = is_some (claim_fault c text)
 names_unknown c _ = false
 
@@ -269,7 +271,24 @@ abbrev pub judge_bytes : State → List ℕ → Result Line Reason
 judge_bytes s bytes = if is_head s.section then judge_head bytes else judge_word s (cut 32 bytes)
 
 abbrev pub with_command : Command → Script → Script
-with_command command script = record { actor = script.actor; commands = script.commands ++ command ∷ [] }
+with_command command script = record script { commands = script.commands ++ command ∷ [] }
+
+-- an await is the command that receives from the port, with its number among those that wait
+abbrev pub with_await : Ui → Script → Script
+with_await port script =
+    record script {
+      commands = script.commands ++ commands.Take port ∷ [];
+      waits = script.waits ++ length script.commands ∷ [];
+    }
+
+-- the last script changes
+abbrev pub with_last : (Script → Script) → State → State
+with_last change s = record {
+  section = sections.Scripts;
+  scene = record s.scene {
+    scripts = slice_set s.scene.scripts (length s.scene.scripts - 1) (change (last_script s.scene.scripts));
+  };
+}
 
 abbrev pub with_setup : State → SetupLine → State
 with_setup s line = record { section = sections.Setup; scene = record s.scene { setup = s.scene.setup ++ line ∷ [] } }
@@ -283,15 +302,10 @@ after s (GroupLine u) = with_setup s (setups.Group u.site)
 after s (MemberLine group port) = with_setup s (setups.Member group port)
 after s (ScriptLine actor) = record {
   section = sections.Scripts;
-  scene = record s.scene { scripts = s.scene.scripts ++ record { actor = actor; commands = [] } ∷ [] };
+  scene = record s.scene { scripts = s.scene.scripts ++ record { actor = actor; commands = []; waits = [] } ∷ [] };
 }
-after s (CommandLine command) = record {
-  section = sections.Scripts;
-  scene = record s.scene {
-    scripts = slice_set s.scene.scripts (length s.scene.scripts - 1)
-        (with_command command (last_script s.scene.scripts));
-  };
-}
+after s (CommandLine command) = with_last (with_command command) s
+after s (AwaitLine port) = with_last (with_await port) s
 after s (ClaimLine text) = record {
   section = sections.Claims;
   scene = record s.scene { claims = s.scene.claims ++ text ∷ [] };

@@ -1,5 +1,5 @@
 -- The limits that a scenario keeps, whatever text said it.
-use Rattle.std.specs.Prelude.{◌≡◌, ℕ, ◌≤◌, ◌<◌, ◌*◌, Bool, true, not, ◌&&◌, List, [], ◌∷◌, ◌++◌, length, Ok, nat_lt, nat_le, ◌==◌, count_by}
+use Rattle.std.specs.Prelude.{◌≡◌, ℕ, ◌+◌, ◌≤◌, ◌<◌, ◌*◌, Bool, true, false, not, ◌&&◌, ◌||◌, List, [], ◌∷◌, ◌++◌, length, Ok, nat_lt, nat_le, ◌==◌, count_by, Option, Some, slice_get}
 use Rattle.std.specs.List.{list_all}
 use Rattle.std.specs.Option.{is_none}
 use Rattle.chorus_ui.specs.declared.ui.Ui.{Ui}
@@ -18,7 +18,7 @@ use Rattle.chorus_scene.specs.declared.scenario.SetupLine.TheVariants as setups
 use Rattle.chorus_scene.specs.declared.scenario.Step as step
 use Rattle.chorus_scene.specs.declared.scenario.Step.TheVariants as steps
 use Rattle.chorus_scene.specs.declared.limits.TheConstants.{SCRIPTS_LIMIT, COMMANDS_LIMIT, CLAIMS_LIMIT, STEPS_LIMIT}
-use Rattle.chorus_scene.specs.Scene.{Scene, Script}
+use Rattle.chorus_scene.specs.Scene.{Scene, Script, HasNoWait}
 use Rattle.chorus_scene.specs.Making.{next_port, next_group, made_after, members_of}
 use Rattle.chorus_scene.specs.Grammar.{most_sites, most_bytes, script_at, is_step, claim_fault, is_claimed, read_scene}
 
@@ -78,6 +78,21 @@ script_keeps l version n script =
     is_actor_of l n script.actor && nat_le (length script.commands) COMMANDS_LIMIT
     && list_all (command_keeps l version n) script.commands
 
+-- the numbers rise, from this one on
+abbrev pub are_rising : ℕ → List ℕ → Bool
+are_rising from [] = true
+are_rising from (i ∷ is) = nat_le from i && are_rising (i + 1) is
+
+abbrev pub is_take : Option Command → Bool
+is_take (Some (commands.Take port)) = true
+is_take _ = false
+
+-- the awaits rise, and each is a command that receives; there is none before version 3
+abbrev pub waits_keep : ℕ → Script → Bool
+waits_keep version script =
+    are_rising 0 script.waits && list_all (λ (i : ℕ). is_take (slice_get script.commands i)) script.waits
+    && (nat_le 3 version || (length script.waits == 0))
+
 -- a line of the setup, where these lines stand before it
 abbrev pub setup_line_keeps : Layout → ℕ → List SetupLine → SetupLine → Bool
 setup_line_keeps l n before (setups.Port actor capacity) =
@@ -126,6 +141,7 @@ pub record Keeps (c : Scene) : Type 0 where
   pub setup : setup_keeps c.layout c.sites [] c.setup ≡ true
   pub few_scripts : length c.scripts ≤ SCRIPTS_LIMIT
   pub scripts : list_all (script_keeps c.layout c.version c.sites) c.scripts ≡ true
+  pub waits : list_all (waits_keep c.version) c.scripts ≡ true
   pub claims_from_three : c.version < 3 → c.claims ≡ []
   pub few_claims : length c.claims ≤ CLAIMS_LIMIT
   pub claims : list_all (is_claim c) c.claims ≡ true
@@ -136,3 +152,8 @@ pub record Keeps (c : Scene) : Type 0 where
 -- a scenario that was read keeps them
 abbrev pub ReadKeeps : Type 0
 ReadKeeps = (l : Layout) (text : List ℕ) (c : Scene) → read_scene l text ≡ Ok c → Keeps c
+
+-- and in versions 1 and 2 nothing waits
+abbrev pub OldTextsDoNotWait : Type 0
+OldTextsDoNotWait =
+    (l : Layout) (text : List ℕ) (c : Scene) → read_scene l text ≡ Ok c → c.version < 3 → HasNoWait c

@@ -44,6 +44,7 @@ wants words.Group = 1
 wants words.Member = 2
 wants words.Script = 1
 wants (words.Command verb) = verb_wants verb
+wants words.Await = 1
 wants words.Claim = 1
 wants words.Schedule = 0
 wants words.Step = 1
@@ -89,6 +90,7 @@ pub data Line : Type 0 where
   MemberLine : Ui → Ui → Line
   ScriptLine : Ui → Line
   CommandLine : Command → Line
+  AwaitLine : Ui → Line
   ClaimLine : List ℕ → Line
   ScheduleLine : Line
   StepLine : step.Step → Line
@@ -157,6 +159,7 @@ line_of words.Member fields =
     with_two MemberLine (name_in kinds.Group (field 0 fields)) (name_in kinds.Port (field 1 fields))
 line_of words.Script fields = option_map ScriptLine (name_in kinds.Actor (field 0 fields))
 line_of (words.Command verb) fields = option_map CommandLine (command_of verb fields)
+line_of words.Await fields = option_map AwaitLine (name_in kinds.Port (field 0 fields))
 line_of words.Claim fields = Some (ClaimLine (field 0 fields))
 line_of words.Schedule fields = Some ScheduleLine
 line_of words.Step fields = option_map (λ n. StepLine (steps.Step n)) (number_in (field 0 fields))

@@ -1,5 +1,5 @@
 -- The one text of a scenario.
-use Rattle.std.specs.Prelude.{◌≡◌, ℕ, List, [], ◌∷◌, ◌++◌, map, Ok, codes, decimal}
+use Rattle.std.specs.Prelude.{◌≡◌, ℕ, ◌+◌, Bool, true, List, [], ◌∷◌, ◌++◌, map, Ok, codes, decimal}
 use Rattle.std.specs.List.{flat_map}
 use Rattle.chorus_ui.specs.declared.ui.Ui.{Ui}
 use Rattle.chorus_ui.specs.Text.{name_text}
@@ -13,9 +13,9 @@ use Rattle.chorus_scene.specs.declared.scenario.SetupLine.TheVariants as setups
 use Rattle.chorus_scene.specs.declared.scenario.Step as step
 use Rattle.chorus_scene.specs.declared.scenario.Step.TheVariants as steps
 use Rattle.chorus_lines.specs.Body.{body_text}
-use Rattle.chorus_scene.specs.Scene.{Scene, Script}
+use Rattle.chorus_scene.specs.Scene.{Scene, Script, is_await}
 use Rattle.chorus_scene.specs.Making.{makes, name_said}
-use Rattle.chorus_scene.specs.Line.{Line, VersionLine, SitesLine, PortLine, GroupLine, MemberLine, ScriptLine, CommandLine, ClaimLine, ScheduleLine, StepLine, EndLine}
+use Rattle.chorus_scene.specs.Line.{Line, VersionLine, SitesLine, PortLine, GroupLine, MemberLine, ScriptLine, CommandLine, AwaitLine, ClaimLine, ScheduleLine, StepLine, EndLine}
 use Rattle.chorus_scene.specs.Grammar.{read_scene}
 
 -- fields, each behind one space
@@ -43,6 +43,20 @@ command_text (commands.Make actor capacity) = codes "newport" ++ behind (name_te
 command_text (commands.GroupMake site) = codes "newgroup" ++ behind (decimal site ∷ [])
 command_text (commands.Join group port) = codes "join" ++ behind (name_text group ∷ name_text port ∷ [])
 command_text (commands.Leave group port) = codes "leave" ++ behind (name_text group ∷ name_text port ∷ [])
+
+abbrev pub await_text : Ui → List ℕ
+await_text port = codes "await" ++ behind (name_text port ∷ [])
+
+-- a command of a script, which may be an await
+abbrev pub said_as : Bool → Command → List ℕ
+said_as true (commands.Take port) = await_text port
+said_as waits command = command_text command
+
+-- the commands of a script from this number on
+abbrev pub command_texts : List ℕ → ℕ → List Command → List (List ℕ)
+command_texts waits i [] = []
+command_texts waits i (command ∷ commands) =
+    said_as (is_await waits i) command ∷ command_texts waits (i + 1) commands
 
 abbrev pub version_text : ℕ → List ℕ
 version_text v = codes "chorus" ++ behind (decimal v ∷ [])
@@ -77,7 +91,7 @@ setup_texts l made [] = []
 setup_texts l made (line ∷ lines) = setup_text l made line ∷ setup_texts l (made ++ makes l made line) lines
 
 abbrev pub script_texts : Script → List (List ℕ)
-script_texts s = actor_text s.actor ∷ map command_text s.commands
+script_texts s = actor_text s.actor ∷ command_texts s.waits 0 s.commands
 
 abbrev pub claim_text : List ℕ → List ℕ
 claim_text text = codes "claim" ++ behind (text ∷ [])
@@ -96,6 +110,7 @@ text_of (GroupLine u) = group_text u
 text_of (MemberLine group port) = member_text group port
 text_of (ScriptLine actor) = actor_text actor
 text_of (CommandLine command) = command_text command
+text_of (AwaitLine port) = await_text port
 text_of (ClaimLine text) = claim_text text
 text_of ScheduleLine = codes "schedule"
 text_of (StepLine step) = step_text step

@@ -99,6 +99,9 @@ read_with r w rest = then_after (state_of r) (judge_fields (scene_of r) w (field
 abbrev pub command_with : Reader → Verb → Option (List ℕ) → Result Line Reason
 command_with r verb rest = judge_fields (scene_of r) (words.Command verb) (fields (cuts (words.Command verb)) rest)
 
+abbrev pub await_with : Reader → Option (List ℕ) → Result Line Reason
+await_with r rest = judge_fields (scene_of r) words.Await (fields (cuts words.Await) rest)
+
 -- what a function returned is what judging gives, unless memory ran out
 abbrev pub Fails : {X : Type 0} → Stop → Result X Reason → Type 0
 Fails (stops.Memory error) judged = Unit {0}

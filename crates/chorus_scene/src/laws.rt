@@ -1,7 +1,7 @@
 //! What holds of every text.
 
 ghost use Rattle.chorus_scene.specs.Laws.{TooLong, FirstFault, NoEnd, Accepted, PrintedAgain};
-ghost use Rattle.chorus_scene.specs.Limits.{ReadKeeps};
+ghost use Rattle.chorus_scene.specs.Limits.{ReadKeeps, OldTextsDoNotWait};
 
 /// The lines of a text are tested in order: the first line that fails a test is the line of the fault, with the reason of
 /// the first test that it fails. A text without such a line says what its lines say, or lacks its end. The law makes no
@@ -19,8 +19,9 @@ pub fn what_is_printed_is_read_again()
     ensures { PrintedAgain }
 {}
 
-/// A scenario that was read keeps all limits: of its version and sites, its setup, its scripts and its schedule. The law
-/// makes no call.
+/// A scenario that was read keeps all limits: of its version and sites, its setup, its scripts and its schedule; in versions 1 and 2
+/// no command of it is an await. The law makes no call.
 pub fn a_scenario_keeps_its_limits()
-    ensures { ReadKeeps }
+    ensures keeps { ReadKeeps }
+    ensures no_wait { OldTextsDoNotWait }
 {}

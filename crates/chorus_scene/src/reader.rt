@@ -146,6 +146,7 @@ impl Reader {
             Word::Member => self.member_line(rest),
             Word::Script => self.script_line(alloc, rest),
             Word::Command(verb) => self.command_line(alloc, verb, rest),
+            Word::Await => self.await_line(rest),
             Word::Claim => self.claim_line(alloc, rest),
             Word::Schedule => self.schedule_line(rest),
             Word::Step => self.step_line(rest),

@@ -35,6 +35,8 @@ pub enum Step {
 pub struct Script {
     actor: Ui,
     commands: Vec<Command>,
+    /// Which commands are awaits, counted from 0, rising.
+    waits: Vec<u16>,
 }
 
 impl Model for Script {
@@ -42,11 +44,18 @@ impl Model for Script {
 
     ghost Value = { scene.Script };
 
-    ghost view = { λ s. record { actor = s.actor; commands = s.commands.items } };
+    ghost view = { λ s. record {
+      actor = s.actor;
+      commands = s.commands.items;
+      waits = s.waits.items;
+    } };
 }
 
 impl Script {
-    ghost use Rattle.chorus_scene.specs.Grammar.{with_command};
+    ghost use Rattle.std.specs.Prelude.{◌<◌, length};
+    ghost use Rattle.chorus_scene.specs.declared.limits.TheConstants.{COMMANDS_LIMIT};
+    ghost use Rattle.chorus_scene.specs.Grammar.{with_command, with_await};
+    ghost use Rattle.chorus_scene.specs.Scene.{is_await};
 
     /// The actor of a script's caller.
     pub fn actor(&self) -> Ui
@@ -62,13 +71,28 @@ impl Script {
         self.commands.as_slice()
     }
 
+    /// Whether the command with this number, counted from 0, is an await: it is done only where a message waits for it.
+    pub fn is_await(&self, index: usize) -> bool
+        ensures { result ≡ is_await self.now.waits index }
+    {
+        self.waits.iter().any(|&wait| usize::from(wait) == index)
+    }
+
+    /// How many commands of the script are awaits.
+    pub fn waits(&self) -> usize
+        ensures { result ≡ length self.now.waits }
+    {
+        self.waits.len()
+    }
+
     /// The script of this actor, with no command.
     pub(crate) fn new(alloc: Global, actor: Ui) -> Script
-        ensures { result ≡ record { actor = actor; commands = [] } }
+        ensures { result ≡ record { actor = actor; commands = []; waits = [] } }
     {
         Script {
             actor,
             commands: Vec::new(alloc),
+            waits: Vec::new(alloc),
         }
     }
 
@@ -77,6 +101,16 @@ impl Script {
         ensures { OnOk result (self.new ≡ with_command command self.old) }
     {
         self.commands.push(command)?;
+        Ok(())
+    }
+
+    /// Adds an await of the port to a script, behind its other commands.
+    pub(crate) fn push_await(&mut self, port: Ui) -> Result<(), AllocError>
+        requires { length self.old.commands < COMMANDS_LIMIT }
+        ensures { OnOk result (self.new ≡ with_await port self.old) }
+    {
+        self.waits.push(self.commands.len() as u16)?;
+        self.commands.push(Command::Take { port })?;
         Ok(())
     }
 }

@@ -1,6 +1,6 @@
 -- What a scenario leaves on more sites, and that version one stays.
 -- l is a layout, n a number of sites, `more` the places of the further sites, c and d are scenarios.
-use Rattle.std.proofs.Common.{ℕ, ◌≡◌, ◌≤◌, true, cond, List, [], ◌∷◌, ◌++◌, map, reverse, Option, Result, Ok, slice_get, refl, sym, ◌∙◌, ap, subst, append_assoc, arith}
+use Rattle.std.proofs.Common.{ℕ, ◌≡◌, ◌≤◌, ◌<◌, true, cond, List, [], ◌∷◌, ◌++◌, map, reverse, Option, Some, None, Result, Ok, slice_get, refl, sym, ◌∙◌, ap, subst, append_assoc, arith}
 use Rattle.std.specs.List.{All}
 use Rattle.std.proofs.lemmas.List.{map-append, reverse-append}
 use Rattle.std.proofs.lemmas.List.Elements.{All-nil, All-cons, All-head, All-tail, All-weaker}
@@ -22,19 +22,22 @@ use Rattle.chorus_net.specs.declared.closed.Closed.{Closed}
 use Rattle.chorus_scene.specs.Scene.{Scene, Script}
 use Rattle.chorus_scene.specs.Grammar.{read_scene}
 use Rattle.chorus_scene.specs.Limits.{Keeps}
-use Rattle.chorus_scene.proofs.Kept.{kept}
+use Rattle.chorus_scene.proofs.Kept.{kept, old_do_not_wait}
 use Rattle.chorus_scene.proofs.Law.{printed_again}
 use Rattle.chorus_show.specs.declared.status.Status.{Status}
 use Rattle.chorus_show.specs.Journal.{journal_text}
 use Rattle.chorus_show.specs.Summary.{summary_text}
 use Rattle.chorus_replay.specs.Order.{in_setup, set_up, in_schedule, left_from, tasks}
 use Rattle.chorus_report.specs.Reading.{bytes_read}
+use Rattle.chorus_show.specs.Report.{report_with}
+use Rattle.chorus_show.specs.declared.stuck.Stuck.{Stuck}
 use Rattle.chorus_net.specs.Closing.{merge_of}
-use Rattle.chorus_replay.specs.Ordered.{IsOrdered}
+use Rattle.chorus_replay.specs.Ordered.{IsOrdered, NoneStuckUnless}
 use Rattle.chorus_replay.specs.Laws.{worn_clock}
 use Rattle.chorus_replay.specs.Performing.{to_enter}
 use Rattle.chorus_replay.proofs.Loops.{order-is}
 use Rattle.chorus_replay.proofs.May.{tasks-may}
+use Rattle.chorus_replay.proofs.Static.{replays-without-waits}
 use Rattle.chorus_replay.proofs.Once.{Ends, All-done, Worn-at, ends-as, one-end}
 use Rattle.chorus_replay.proofs.Stepping.{may-suffix}
 use Rattle.law_replay.specs.Version.{eight, sixteen, with_layout, SaysTheSame, IsOfVersionOne, MergesTheSame, AreAlike, ClosesTheSame, WritesTheSame}
@@ -245,11 +248,30 @@ merges-the-same text c d es fs v these those = text-merges text c d v es fs thes
 pub closes-the-same : ClosesTheSame
 closes-the-same text c d s t one other v a b = text-replays text c d v s t one other a b
 
+none-stuck : (s : Status) (stuck : List Stuck) → worn_clock s ≡ None → NoneStuckUnless s stuck → stuck ≡ []
+none-stuck Status.Done stuck none h = h
+none-stuck Status.Usage stuck none h = h
+none-stuck (Status.Scenario line reason) stuck none h = h
+none-stuck Status.ReadFault stuck none h = h
+none-stuck Status.WriteFault stuck none h = h
+none-stuck Status.Memory stuck none h = h
+none-stuck (Status.Worn clock) stuck none h = absurd (cc)
+
 pub writes-the-same : WritesTheSame
-writes-the-same input s t one other these those version =
-    let v : IsOfVersionOne (bytes_read input) these.runs.scene those.runs.scene = record {
+writes-the-same input stuck others s t one other these those version =
+    let c = these.runs.scene in
+    let d = those.runs.scene in
+    let v : IsOfVersionOne (bytes_read input) c d = record {
       eight = ap (read_scene eight) (sym (these.runs.given).read) ∙ (these.runs.given).given;
       sixteen = ap (read_scene sixteen) (sym (those.runs.given).read) ∙ (those.runs.given).given;
       one = version;
     } in
-    closes-the-same (bytes_read input) these.runs.scene those.runs.scene s t one other v these.ordered those.ordered
+    let older : d.version < 3 = (let same = ap (λ (z : Scene). z.version) (other-is (bytes_read input) c d v) in omega (arith, same, version)) in
+    let first = replays-without-waits eight (Some input) stuck s one shape-eight these (old_do_not_wait eight (bytes_read input) c v.eight (omega (arith, version))) in
+    let second = replays-without-waits sixteen (Some input) others t other shape-sixteen those (old_do_not_wait sixteen (bytes_read input) d v.sixteen older) in
+    let same = closes-the-same (bytes_read input) c d s t one other v first.0 second.0 in (
+      same,
+      λ none.
+          (ap (λ zs. report_with zs (merge_of one)) (none-stuck s stuck none first.1) ∙ ap (report_with []) same.merge
+          ∙ sym (ap (λ zs. report_with zs (merge_of other)) (none-stuck t others (sym same.worn ∙ none) second.1))),
+    )

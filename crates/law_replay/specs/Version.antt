@@ -1,6 +1,6 @@
 -- Version one stays: a text of version 1 says the same on 8 and on 16 sites of one place each, and it is replayed the
 -- same. c and d are scenarios, es and fs are events, s and t are statuses.
-use Rattle.std.specs.Prelude.{ℕ, ◌≡◌, List, Some, Ok}
+use Rattle.std.specs.Prelude.{ℕ, ◌≡◌, List, Some, None, Ok}
 use Rattle.chorus_ui.specs.declared.layout.Layout.{Layout}
 use Rattle.law_network.specs.Left.{merge}
 use Rattle.law_network.specs.Network.{Event, schedule}
@@ -9,6 +9,8 @@ use Rattle.chorus_net.specs.declared.closed.Closed.{Closed}
 use Rattle.chorus_scene.specs.Scene.{Scene}
 use Rattle.chorus_scene.specs.Grammar.{read_scene}
 use Rattle.chorus_show.specs.declared.status.Status.{Status}
+use Rattle.chorus_show.specs.declared.stuck.Stuck.{Stuck}
+use Rattle.chorus_report.specs.Output.{text_with}
 use Rattle.chorus_replay.specs.Order.{tasks}
 use Rattle.chorus_net.specs.Closing.{merge_of}
 use Rattle.chorus_replay.specs.Ordered.{IsOrdered, Replays}
@@ -60,8 +62,10 @@ ClosesTheSame =
     (text : List ℕ) (c d : Scene) (s t : Status) (one other : Closed) → IsOfVersionOne text c d →
     IsOrdered eight (tasks c) s one → IsOrdered sixteen (tasks d) t other → AreAlike s t one other
 
--- and with what `replay` promises of two sources that give the same bytes
+-- and with what `replay` promises of two sources that give the same bytes; where no clock is worn it writes the same
 abbrev pub WritesTheSame : Type 0
 WritesTheSame =
-    (input : List ℕ) (s t : Status) (one other : Closed) (these : Replays eight (Some input) s one)
-    (those : Replays sixteen (Some input) t other) → these.runs.scene.version ≡ 1 → AreAlike s t one other
+    (input : List ℕ) (stuck others : List Stuck) (s t : Status) (one other : Closed)
+    (these : Replays eight (Some input) stuck s one) (those : Replays sixteen (Some input) others t other) →
+    these.runs.scene.version ≡ 1 →
+    AreAlike s t one other × (worn_clock s ≡ None → text_with stuck (Some one) ≡ text_with others (Some other))

@@ -3,10 +3,10 @@
 ghost use Rattle.std.specs.Prelude.{◌≡◌, ◌<◌, true, false, length, OnOk, IfErr};
 ghost use Rattle.std.specs.Option.{option_copied};
 ghost use Rattle.chorus_scene.specs.Grammar.{after, last_is_full, most_bytes};
-ghost use Rattle.chorus_scene.specs.Line.{target_kind, dest_of, CommandLine};
+ghost use Rattle.chorus_scene.specs.Line.{target_kind, dest_of, CommandLine, AwaitLine};
 ghost use Rattle.chorus_lines.specs.Words.{may_stand};
-ghost use Rattle.chorus_scene.specs.Telling.{TellsAs};
-ghost use Rattle.chorus_scene.specs.Reader.{Gives, Tells, Stands, IsMemory, is_early, read_with, command_with, state_of, scene_of};
+ghost use Rattle.chorus_scene.specs.Telling.{TellsAs, TellsAwait};
+ghost use Rattle.chorus_scene.specs.Reader.{Gives, Tells, Stands, IsMemory, is_early, read_with, command_with, await_with, state_of, scene_of};
 
 use crate::limits::{COMMANDS_LIMIT, VERSION_ONE_BODY};
 use crate::reader::{Reader, name_in};
@@ -49,6 +49,35 @@ impl Reader {
     {
         let last = self.scripts.len() - 1;
         self.scripts[last].push(command)?;
+        self.counts[last] += 1;
+        self.section = Section::Scripts;
+        Ok(())
+    }
+
+    /// Reads the line `await PORT` of a script, whose command receives from the port, and waits for a message in it.
+    pub(crate) fn await_line(&mut self, rest: Option<&[u8]>) -> Result<(), Stop>
+        requires stands { Stands self.old }
+        requires may { may_stand self.old.section Word.Await ≡ true }
+        ensures gives { Gives (state_of self.new) result
+            (read_with self.old Word.Await (option_copied rest.entry)) }
+        ensures stands { OnOk result (Stands self.new) }
+    {
+        let port = self.port(rest)?;
+        self.push_await(port)
+    }
+
+    /// Puts an await of the port behind the others of the script that was begun last; the only error is want of memory.
+    fn push_await(&mut self, port: Ui) -> Result<(), Stop>
+        requires stands { Stands self.old }
+        requires some { 0 < length self.old.scripts.items }
+        requires room { last_is_full (scene_of self.old) ≡ false }
+        requires early { is_early self.old.section ≡ true }
+        ensures ok { OnOk result (state_of self.new ≡ after (state_of self.old) (AwaitLine port)) }
+        ensures stands { OnOk result (Stands self.new) }
+        ensures memory { IfErr result IsMemory }
+    {
+        let last = self.scripts.len() - 1;
+        self.scripts[last].push_await(port)?;
         self.counts[last] += 1;
         self.section = Section::Scripts;
         Ok(())
@@ -111,13 +140,14 @@ impl Reader {
         Ok(())
     }
 
-    /// The one port that a script's line names, as at `take` and `delete`.
+    /// The one port that a script's line names, as at `take`, `await` and `delete`.
     fn port(&self, rest: Option<&[u8]>) -> Result<Ui, Stop>
         requires some { 0 < length self.now.scripts.items }
         ensures take { TellsAs Command.Take result
             (command_with self.now Verb.Take (option_copied rest.entry)) }
         ensures delete { TellsAs Command.Delete result
             (command_with self.now Verb.Delete (option_copied rest.entry)) }
+        ensures waits { TellsAwait result (await_with self.now (option_copied rest.entry)) }
     {
         let Some(port) = one(rest) else {
             return Err(Stop::Fault(Reason::Word));

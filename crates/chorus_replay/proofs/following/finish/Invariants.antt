@@ -1,11 +1,14 @@
-use Rattle.std.proofs.Common.{◌≡◌, ◌+◌, drop, [], ◌∷◌, ◌++◌}
-use Rattle.law_network.specs.Tasks.{Drain}
-use Rattle.chorus_replay.specs.Order.{left_from}
-use Rattle.chorus_replay.specs.Performing.{IsBefore}
+use Rattle.std.proofs.Common.{◌≡◌, ◌+◌, ◌≤◌, sum}
+use Rattle.std.specs.Prelude.{◌⊎◌}
+use Rattle.chorus_report.specs.Awaiting.{all_scripts}
+use Rattle.chorus_replay.specs.Performing.{IsAt, SomeGoes}
+use Rattle.chorus_replay.specs.Waiting.{InRound}
 use Rattle.chorus_net.specs.Sites.{net}
 use Rattle.chorus_replay.proofs.following.finish.Given as goal
 
-abbrev pub invariant-loop-index : goal.invariant-loop-index
-invariant-loop-index l =
-    IsBefore l.scenario (left_from l.scenario.schedule (l.index + 1) (drop l.index l.scenario.scripts) ++ Drain 0 ∷ []) (net l.sites)
+-- behind the first round each one did a command, and some script may go on
+abbrev pub invariant-loop-round : goal.invariant-loop-round
+invariant-loop-round l =
+    IsAt l.scenario (InRound (all_scripts l.scenario)) l.done.items (net l.sites)
+    × ((l._round ≡ 0) ⊎ (SomeGoes l.scenario l.done.items (net l.sites) × (l._round ≤ sum l.done.items + 1)))
     × (l.sites.mark ≡ l.initial.sites.mark)

@@ -1,54 +1,68 @@
-use Rattle.std.proofs.Common.{refl, ◌∙◌, ◌+◌, ◌-◌, take, drop, length}
-use Rattle.std.proofs.lemmas.Option.{slice_get_read}
+use Rattle.std.proofs.Common.{◌+◌, ◌-◌, ◌<◌, ◌∙◌, length, arith}
 use Rattle.std.proofs.lemmas.Result.{err_from_is_err_and}
-use Rattle.law_network.specs.Network.{Act}
 use Rattle.chorus_net.specs.Sites.{net}
-use Rattle.chorus_replay.proofs.Loops.{left-next, first-within, exit, act-unworn}
-use Rattle.chorus_replay.proofs.Stepping.{can, step-may, act-done, act-worn, drain-done, drain-worn}
+use Rattle.chorus_replay.specs.Performing.{from_script}
+use Rattle.chorus_replay.specs.Waiting.{InRound}
+use Rattle.chorus_replay.proofs.Going.{counted, may-do, passes, round-act-stops, round-drain-stops, round-goes}
+use Rattle.chorus_replay.proofs.Loops.{exit}
+use Rattle.chorus_replay.proofs.Rounds.{at-first, at-last, stands-more, waits-so, went-less, went-so}
 use Rattle.chorus_replay.proofs.following.finish_script.Goals as goal
 
-pub slice_bounds-command-items-count : goal.slice_bounds-command-items-count
-slice_bounds-command-items-count c =
-    first-within c.args.scenario.now c.requires.keeps c.args.index c.args.first c.scripts.result.now c.index-scripts-index.result c.commands.result.now
-    c.requires.index c.requires.first c.scripts.ensures c.index-scripts-index.is c.commands.ensures
+pub go_on-requires-clause-counted : goal.go_on-requires-clause-counted
+go_on-requires-clause-counted c = (let scene = c.args.scenario.now in counted scene c.requires.shape c.requires.keeps (InRound (from_script scene c.args.seat)) _ _ c.loop-sites.invariant.0)
 
-pub slice_bounds-command-items-start : goal.slice_bounds-command-items-start
-slice_bounds-command-items-start c =
-    first-within c.args.scenario.now c.requires.keeps c.args.index c.args.first c.scripts.result.now c.index-scripts-index.result c.commands.result.now
-    c.requires.index c.requires.first c.scripts.ensures c.index-scripts-index.is c.commands.ensures
+pub go_on-requires-clause-may : goal.go_on-requires-clause-may
+go_on-requires-clause-may c = λ command next.
+    (let scene = c.args.scenario.now in
+    may-do scene c.requires.shape c.requires.keeps (InRound (from_script scene c.args.seat)) _ _ c.loop-sites.invariant.0 c.args.seat c.requires.script command next)
 
-pub act-requires : goal.act-requires
-act-requires c =
+pub returns-in_err-go_on-clause-worn : goal.returns-in_err-go_on-clause-worn
+returns-in_err-go_on-clause-worn c clock is =
     let scene = c.args.scenario.now in
-    let read = slice_get_read _ _ _ _ refl c.loop-command-test.true c.command-item.is in
-    let next = left-next scene c.args.index (take (length c.commands.result.now - c.args.first) (drop c.args.first c.commands.result.now)) c.loop-command.command-index _ c.in_ok-copied.field-0 (net c.loop-command.sites) read c.in_ok-copied.ensures c.loop-command.invariant.0 in
-    step-may (can scene c.requires.shape c.requires.keeps) (Act (c.args.index + 1) c.in_ok-copied.field-0) _ (net c.loop-command.sites) next
+    let k = c.args.seat in
+    let here = at-first scene k _ _ c.requires.script c.loop-sites.invariant.0 in
+    let p = err_from_is_err_and c.from_residual.result c.from_residual.ensures.1 in
+    round-act-stops scene c.requires.shape c.requires.keeps k (from_script scene (k + 1)) _ _ here clock _
+    (c.go_on.ensures.worn clock (exit c.from_residual.result c.go_on.result _ p.0 _ p.1 p.2 c.in_err-go_on.was is))
 
-pub returns-in_err-act-clause-worn : goal.returns-in_err-act-clause-worn
-returns-in_err-act-clause-worn c clock is =
+pub loop-sites-smaller : goal.loop-sites-smaller
+loop-sites-smaller c =
     let scene = c.args.scenario.now in
-    let read = slice_get_read _ _ _ _ refl c.loop-command-test.true c.command-item.is in
-    let next = left-next scene c.args.index (take (length c.commands.result.now - c.args.first) (drop c.args.first c.commands.result.now)) c.loop-command.command-index _ c.in_ok-copied.field-0 (net c.loop-command.sites) read c.in_ok-copied.ensures c.loop-command.invariant.0 in
-    let p = err_from_is_err_and c.from_residual-in_err-act.result c.from_residual-in_err-act.ensures.1 in
-    act-worn (can scene c.requires.shape c.requires.keeps) (c.args.index + 1) c.in_ok-copied.field-0 _ _ _ clock next c.in_err-act.ensures.refused.same
-    ((c.act.ensures.worn clock).0 (exit c.from_residual-in_err-act.result c.act.result _ p.0 _ p.1 p.2 c.in_err-act.was is))
+    let k = c.args.seat in
+    let len = counted scene c.requires.shape c.requires.keeps (InRound (from_script scene k)) _ _ c.loop-sites.invariant.0 in
+    went-less scene k c.loop-sites.done.items c.go_on.new.done.items (net c.loop-sites.sites) (net c.go_on.new.sites) c.requires.script len
+    (went-so scene k c.loop-sites.done.items c.go_on.new.done.items (net c.loop-sites.sites) (net c.go_on.new.sites) c.in_ok-go_on.field-0 c.if-branch.true c.in_ok-go_on.ensures.ok)
+
+pub loop-sites-preserved : goal.loop-sites-preserved
+loop-sites-preserved c =
+    let scene = c.args.scenario.now in
+    let k = c.args.seat in
+    let here = at-first scene k _ _ c.requires.script c.loop-sites.invariant.0 in
+    let len = counted scene c.requires.shape c.requires.keeps (InRound (from_script scene k)) _ _ c.loop-sites.invariant.0 in
+    let low = c.requires.script.0 in
+    let high = c.requires.script.1 in
+    let lt : k - 1 < length c.loop-sites.done.items = omega (arith, low, high, len) in
+    let went = went-so scene k c.loop-sites.done.items c.go_on.new.done.items (net c.loop-sites.sites) (net c.go_on.new.sites) c.in_ok-go_on.field-0 c.if-branch.true c.in_ok-go_on.ensures.ok in (
+      at-last scene k _ _ c.requires.script
+          (round-goes scene c.requires.shape c.requires.keeps k (from_script scene (k + 1)) _ _ here c.go_on.new.done.items (net c.go_on.new.sites) went (net c.drain.new.self) _ c.in_ok-drain.ensures.ok),
+      stands-more scene k c.args.done.now.items c.loop-sites.done.items c.go_on.new.done.items (net c.args.sites.now) (net c.loop-sites.sites) (net c.go_on.new.sites) (net c.drain.new.self) lt c.loop-sites.invariant.1 went,
+      c.in_ok-drain.ensures.mark ∙ c.in_ok-go_on.ensures.mark ∙ c.loop-sites.invariant.2,
+    )
 
 pub returns-in_err-drain-clause-worn : goal.returns-in_err-drain-clause-worn
 returns-in_err-drain-clause-worn c clock is =
     let scene = c.args.scenario.now in
-    let read = slice_get_read _ _ _ _ refl c.loop-command-test.true c.command-item.is in
-    let next = left-next scene c.args.index (take (length c.commands.result.now - c.args.first) (drop c.args.first c.commands.result.now)) c.loop-command.command-index _ c.in_ok-copied.field-0 (net c.loop-command.sites) read c.in_ok-copied.ensures c.loop-command.invariant.0 in
-    let acted = act-done (can scene c.requires.shape c.requires.keeps) (c.args.index + 1) c.in_ok-copied.field-0 _ _ _ next c.in_ok-act.ensures.ok (act-unworn c.act.result c.in_ok-act.field-0 _ c.in_ok-act.was c.act.ensures.worn) in
+    let k = c.args.seat in
+    let here = at-first scene k _ _ c.requires.script c.loop-sites.invariant.0 in
+    let went = went-so scene k c.loop-sites.done.items c.go_on.new.done.items (net c.loop-sites.sites) (net c.go_on.new.sites) c.in_ok-go_on.field-0 c.if-branch.true c.in_ok-go_on.ensures.ok in
     let p = err_from_is_err_and c.from_residual-in_err-drain.result c.from_residual-in_err-drain.ensures.1 in
-    drain-worn (can scene c.requires.shape c.requires.keeps) _ _ _ clock acted
+    round-drain-stops scene c.requires.shape c.requires.keeps k (from_script scene (k + 1)) _ _ here c.go_on.new.done.items (net c.go_on.new.sites) went (net c.drain.new.self) clock
     (c.drain.ensures.worn clock (exit c.from_residual-in_err-drain.result c.drain.result _ p.0 _ p.1 p.2 c.in_err-drain.was is))
 
-pub loop-command-preserved : goal.loop-command-preserved
-loop-command-preserved c =
+pub returns-clause-ok : goal.returns-clause-ok
+returns-clause-ok c =
     let scene = c.args.scenario.now in
-    let read = slice_get_read _ _ _ _ refl c.loop-command-test.true c.command-item.is in
-    let next = left-next scene c.args.index (take (length c.commands.result.now - c.args.first) (drop c.args.first c.commands.result.now)) c.loop-command.command-index _ c.in_ok-copied.field-0 (net c.loop-command.sites) read c.in_ok-copied.ensures c.loop-command.invariant.0 in
-    let acted = act-done (can scene c.requires.shape c.requires.keeps) (c.args.index + 1) c.in_ok-copied.field-0 _ _ _ next c.in_ok-act.ensures.ok (act-unworn c.act.result c.in_ok-act.field-0 _ c.in_ok-act.was c.act.ensures.worn) in (
-      drain-done (can scene c.requires.shape c.requires.keeps) _ _ _ _ acted c.in_ok-drain.ensures.ok,
-      c.in_ok-drain.ensures.mark ∙ c.in_ok-act.ensures.mark ∙ c.loop-command.invariant.1,
-    )
+    let k = c.args.seat in
+    let here = at-first scene k _ _ c.requires.script c.loop-sites.invariant.0 in
+    let waits = waits-so scene k c.loop-sites.done.items c.go_on.new.done.items (net c.loop-sites.sites) (net c.go_on.new.sites) c.in_ok-go_on.field-0 c.if-branch.false c.in_ok-go_on.ensures.ok in
+    passes scene c.requires.shape c.requires.keeps k (from_script scene (k + 1)) c.loop-sites.done.items c.go_on.new.done.items (net c.loop-sites.sites) (net c.go_on.new.sites) here waits
