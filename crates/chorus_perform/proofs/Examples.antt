@@ -21,7 +21,7 @@ use Rattle.chorus_perform.specs.Scripts.{HasPerformed, IsOfScript, IsSetUpFirst}
 -- seat 0 makes a port, and the one script cancels a call
 abbrev small : Scene
 small =
-    scene_with (record { sites = 1; turns = 1 }) 2 1 (setups.Port first_actor 4 ∷ []) (record { actor = first_actor; commands = Command.Cancel ∷ [] } ∷ []) []
+    scene_with (record { sites = 1; turns = 1 }) 2 1 (setups.Port first_actor 4 ∷ []) (record { actor = first_actor; commands = Command.Cancel ∷ []; waits = [] } ∷ []) []
 
 -- a seat performed a command by an entry with this clock
 abbrev made : ℕ → ℕ → Command → Placed PlaceNote
@@ -70,7 +70,7 @@ performed = record {
   where
     script : IsOfScript true small 0 (note (made 1 2 Command.Cancel ∷ []))
     script = record {
-      script = record { actor = first_actor; commands = Command.Cancel ∷ [] };
+      script = record { actor = first_actor; commands = Command.Cancel ∷ []; waits = [] };
       is = refl;
       seat = refl;
       performed = record { left = []; whole = refl; within = in-actor 1 2 Command.Cancel; none_left = λ e. refl };
@@ -92,7 +92,7 @@ not-behind h =
 pub not-all : HasPerformed true small (knows []) → ⊥
 not-all h =
     let one = h.scripts 0 (note []) refl in
-    let is : Some one.script ≡ Some (record { actor = first_actor; commands = Command.Cancel ∷ [] }) = sym one.is in
+    let is : Some one.script ≡ Some (record { actor = first_actor; commands = Command.Cancel ∷ []; waits = [] }) = sym one.is in
     let none = (one.performed).none_left refl in
     let whole = (one.performed).whole in
     cc

@@ -12,10 +12,10 @@ use Rattle.chorus_net.specs.Closing.{merge_of}
 use Rattle.chorus_nucleus.specs.declared.nucleus.Nucleus.{Nucleus}
 use Rattle.chorus_nucleus.specs.Passes.{layout_of}
 use Rattle.chorus_report.specs.declared.finished.Finished.{Finished}
-use Rattle.chorus_report.specs.Ending.{EndsReading, EndsWriting}
-use Rattle.chorus_report.specs.Headline.{HasClock, Runs}
-use Rattle.chorus_report.specs.Output.{EndsUnread, summary_of, text_of}
-use Rattle.chorus_report.specs.Reading.{ReadsWithin}
+use Rattle.chorus_report.specs.Ending.{EndsReadingBy, EndsWriting}
+use Rattle.chorus_report.specs.Headline.{HasClock, RunsWhole}
+use Rattle.chorus_report.specs.Output.{EndsUnread, summary_of, text_of, text_with}
+use Rattle.chorus_report.specs.Reading.{ReadsText, ReadsWithin}
 use Rattle.chorus_report.proofs.Ends.{ends-memory, gave-up-writes, none-closed, reads-as}
 use Rattle.chorus_replay.specs.Ends.{EndsAsLoad, EndsAsReplay}
 use Rattle.chorus_replay.specs.Load.{Loads}
@@ -44,7 +44,7 @@ use Rattle.chorus_program.specs.Started.{DoesOnOwn, DoesOnStarted}
 -- Causes.
 
 module _ {S K : Type 0} (f : Finished) (left : S → Option (List ℕ)) (faults : S → ℕ) (reliable : S → Type 0) (from rest : S) (held : K → Option (List ℕ)) (failures : K → ℕ) (old new : K) where
-  pub causes-of : (l : Layout) (text : List ℕ) → EndsReading l f.status left faults reliable from rest → EndsWriting text f held failures old new → EndsWithCause f faults reliable from rest failures old new
+  pub causes-of : {R : ReadsText} (l : Layout) (text : List ℕ) → EndsReadingBy R l f.status left faults reliable from rest → EndsWriting text f held failures old new → EndsWithCause f faults reliable from rest failures old new
   causes-of l text r w = record {
     read_fault = r.read_fault;
     no_fault = r.no_fault;
@@ -118,7 +118,7 @@ module _ {S K : Type 0} (f : Finished) (is : f ≡ record { status = Memory; clo
   read-none : ReadsWithin (left from) (left from)
   read-none = ([], (Consumes-nil (left from), omega arith))
 
-  reads-none : (l : Layout) → EndsReading l f.status left faults reliable from from
+  reads-none : {R : ReadsText} (l : Layout) → EndsReadingBy R l f.status left faults reliable from from
   reads-none l = reads-as l l Memory f left faults reliable from from refl is (ends-memory l left faults reliable from from refl read-none)
 
   closes-none : f.closed ≡ None
@@ -126,16 +126,17 @@ module _ {S K : Type 0} (f : Finished) (is : f ≡ record { status = Memory; clo
 
   pub replays-none : EndsAsReplay replay_layout f left faults reliable from from held failures old old
   replays-none = record {
+    stuck = [];
     reads = reads-none replay_layout;
-    writes = writes-none f is held failures old (text_of f.closed);
-    replays = none-closed Memory f (Replays replay_layout (left from)) is;
+    writes = writes-none f is held failures old (text_with [] f.closed);
+    replays = none-closed Memory f (Replays replay_layout (left from) []) is;
   }
 
   pub runs-none : (n : Nucleus) → EndsAsRun n f left faults reliable from from held failures old old
   runs-none n = record {
     reads = reads-none (layout_of n);
     writes = writes-none f is held failures old (text_of f.closed);
-    runs = none-closed Memory f (Runs (layout_of n) (left from)) is;
+    runs = none-closed Memory f (RunsWhole (layout_of n) (left from)) is;
     performs = none-closed Memory f (HasAllPerformed n (left from)) is;
     origin = none-closed Memory f (λ s. IsOfNucleus n) is;
     worn = none-closed Memory f HasWornOf is;

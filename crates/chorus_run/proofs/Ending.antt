@@ -21,8 +21,8 @@ use Rattle.chorus_nucleus.specs.Rounds.{IsEven}
 use Rattle.chorus_perform.specs.Scripts.{HasPerformed}
 use Rattle.chorus_replay.specs.Laws.{worn_clock}
 use Rattle.chorus_report.specs.declared.played.Played.{Played}
-use Rattle.chorus_report.specs.Reading.{IsGiven}
-use Rattle.chorus_report.specs.Headline.{AreWithinUnless, HasClock, Plays, Runs, callers_of, commands_by}
+use Rattle.chorus_report.specs.Reading.{IsGiven, IsGivenNoWait}
+use Rattle.chorus_report.specs.Headline.{AreWithinUnless, HasClock, Plays, RunsWhole, callers_of, commands_by}
 use Rattle.chorus_report.specs.Ending.{EndsFor, HasWorn, IsFinished}
 use Rattle.chorus_report.proofs.Ends.{finished-so}
 use Rattle.chorus_run.specs.Threads.{HasAllPerformed, HasWornOf, IsAllPerformed, IsOfNucleus, IsPlayedOn, StopsAt}
@@ -125,11 +125,11 @@ module _ (n : Nucleus) (c : Scene) (r : Result Played AllocError) (s : Status) (
   pub worn-so : (o : Option Closed) → IfSome o (IsFinished r s) → IfSome o (HasWornOf s)
   worn-so o f = finished-so HasWornOf r s o (each HasWornOf worn-for r played) f
 
-  pub runs-so : (l : Layout) (told : Option (List ℕ)) (o : Option Closed) → c.layout ≡ l → IsGiven l told (Ok c) → IfSome o (IsFinished r s) → IfSome o (AreWithinUnless s) → IfSome o (Runs l told s)
+  pub runs-so : (l : Layout) (told : Option (List ℕ)) (o : Option Closed) → c.layout ≡ l → IsGivenNoWait l told (Ok c) → IfSome o (IsFinished r s) → IfSome o (AreWithinUnless s) → IfSome o (RunsWhole l told s)
   runs-so l told o same given f within =
       by o (finished-so (Plays c.layout (callers_of c) (commands_by c)) r s o (each (Plays c.layout (callers_of c) (commands_by c)) (λ worn closed h. h.plays) r played) f) within
     where
-      by : (o : Option Closed) → IfSome o (Plays c.layout (callers_of c) (commands_by c) s) → IfSome o (AreWithinUnless s) → IfSome o (Runs l told s)
+      by : (o : Option Closed) → IfSome o (Plays c.layout (callers_of c) (commands_by c) s) → IfSome o (AreWithinUnless s) → IfSome o (RunsWhole l told s)
       by None plays within = tt
       by (Some closed) plays within = record {
         scene = c;

@@ -11,7 +11,7 @@ use crate::finishing::finish;
 use chorus_io::{Sink, Source};
 use chorus_nucleus::{Nucleus, Pass};
 use chorus_perform::{Gate, perform};
-use chorus_report::{Finished, Played, gave_up, read_scenario};
+use chorus_report::{Finished, Played, gave_up, read_without_awaits};
 use chorus_scene::Scenario;
 use std::alloc::{AllocError, Global};
 use std::sync::Wait;
@@ -36,7 +36,7 @@ pub fn run<R: Threads + Wait + Sync, S: Source, K: Sink, G: Gate>(
     ensures { EndsAsRun nucleus result S.left S.faults S.reliable
         source.old source.new K.held K.faults sink.old sink.new }
 {
-    let scenario = match read_scenario(alloc, source, nucleus.layout()) {
+    let scenario = match read_without_awaits(alloc, source, nucleus.layout()) {
         Ok(scenario) => scenario,
         Err(status) => {
             close_unused(rt, nucleus, pass);

@@ -16,6 +16,6 @@ pub struct Explored {
     pub events: u64,
     /// Whether a limit was met.
     pub is_cut: bool,
-    /// All whole histories of fewer moves than this were counted, and none of more.
+    /// All whole histories of fewer moves than this were counted.
     pub bound: usize,
 }

@@ -1,6 +1,6 @@
 -- What a reader finds in a replay is among what is told.
 -- c is a scenario, steps are the lines behind `schedule`, ms are moves, k is a claim.
-use Rattle.std.proofs.Common.{ℕ, ◌≡◌, ◌<◌, Bool, true, false, List, [], ◌∷◌, ◌++◌, length, map, reverse, option_to_list, inl, inr, refl, sym, ◌∙◌, ap, subst, append_assoc}
+use Rattle.std.proofs.Common.{ℕ, ◌≡◌, ◌<◌, Bool, true, false, List, [], ◌∷◌, ◌++◌, length, map, reverse, option_to_list, Some, inl, inr, refl, sym, ◌∙◌, ap, subst, append_assoc}
 use Rattle.std.proofs.lemmas.Bool.{false≢true}
 use Rattle.std.specs.List.{All, Contains}
 use Rattle.std.proofs.lemmas.List.{map-append, reverse-reverse}
@@ -20,9 +20,11 @@ use Rattle.law_explore.specs.Search.{IsHistory}
 use Rattle.law_replay.specs.Shown.{race_of, step_of}
 use Rattle.chorus_claims.specs.Pieces.{Claim, meets}
 use Rattle.chorus_scene.specs.Limits.{Keeps}
-use Rattle.chorus_scene.specs.Scene.{Scene}
+use Rattle.chorus_scene.specs.Scene.{Scene, HasNoWait}
 use Rattle.chorus_scene.proofs.Kept.{kept}
 use Rattle.chorus_scene.proofs.Law.{printed_again}
+use Rattle.chorus_report.proofs.Awaiting.{given-whole}
+use Rattle.chorus_replay.proofs.Static.{replays-without-waits}
 use Rattle.chorus_replay.specs.Order.{tasks}
 use Rattle.chorus_replay.specs.Ordered.{IsOrdered}
 use Rattle.explore_report.specs.declared.findings.Finding.{Finding}
@@ -93,17 +95,21 @@ outcomes-are-of-replays c most text shape keeps told = by told.explored.findings
         (by fs (All-tail (Shows c told.histories) (found_of f) (map found_of fs) h) (All-tail (IsReplayed c) f fs g))
 
 pub texts-are-among-outcomes : TextsAreAmongOutcomes
-texts-are-among-outcomes l most input other old new status closed shape told replay same unworn all =
+texts-are-among-outcomes l most input other old new stuck status closed shape told replay same unworn all =
     let c = told.scene in
     let d = replay.runs.scene in
-    let layout : c.layout ≡ l = (printed_again l told.given.bytes c told.given.given).0 in
+    let explored = given-whole l (Some input) c told.given in
+    let layout : c.layout ≡ l = (printed_again l explored.0.bytes c explored.0.given).0 in
     let keeps : Keeps d = kept l replay.runs.given.bytes d replay.runs.given.given in
+    -- nothing waits in what is explored, so nothing does here
+    let none : HasNoWait d = subst HasNoWait (sym same) explored.1 in
+    let ordered = (replays-without-waits l (Some other) stuck status closed shape replay none).0 in
     replays-are-among-outcomes c most told.text d.schedule closed (subst IsLayout (sym layout) shape) told.explored
     (record {
       status = status;
       keeps = subst Keeps same keeps;
       ordered = subst (λ (k : Layout). IsOrdered k (tasks (record c { schedule = d.schedule })) status closed) (sym layout)
-          (subst (λ (x : Scene). IsOrdered l (tasks x) status closed) same replay.ordered);
+          (subst (λ (x : Scene). IsOrdered l (tasks x) status closed) same ordered);
       unworn = unworn;
     })
     all
