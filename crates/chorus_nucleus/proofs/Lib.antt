@@ -24,3 +24,4 @@ pub mod Pairs
 pub mod Rests
 pub mod Parting
 pub mod SiteTurns
+pub mod ReadyTakes

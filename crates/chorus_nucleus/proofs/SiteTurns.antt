@@ -3,3 +3,4 @@ pub mod Flowing
 pub mod Turning
 pub mod Steps
 pub mod Published
+pub mod Readied

@@ -10,6 +10,7 @@ pub mod Closing
 pub mod Runs
 pub mod Answers
 pub mod Taking
+pub mod Ready
 pub mod Posted
 pub mod Rounds
 pub mod Leavings
