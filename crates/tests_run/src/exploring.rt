@@ -29,3 +29,12 @@ pub(crate) fn told(rt: &impl Abort, alloc: Global, most: u32, text: &str) -> Str
     assert_same(rt, status, Status::Done, text);
     run_of(rt, alloc, status, false, &sink).written
 }
+
+/// The status with which an exploration of the text ends, of which nothing is told.
+pub(crate) fn refused_by_explore(rt: &impl Abort, alloc: Global, text: &str) -> Status {
+    let mut source = source_of(rt, alloc, text.as_bytes(), &[]);
+    let mut sink = sink_of(rt, alloc, 4096, &[]);
+    let status = explore_on(rt, alloc, MANY, &mut source, &mut sink);
+    assert_same(rt, sink.bytes().len(), 0, text);
+    status
+}

@@ -1,8 +1,10 @@
 //! Tests of `chorus_replay`, `chorus_net` and `chorus_explore`: what scenarios print and what calls of the sites leave, what loads write, how
-//! texts, sources and sinks end a run, and what explorations tell (`exploring`: `races`, `counts`, and `schedules`, which are replayed). The
-//! worked rows are in `tests_rows`.
+//! texts, sources and sinks end a run, what explorations tell (`exploring`: `races`, `counts`, and `schedules`, which are replayed), and
+//! scripts that wait (`awaits`). The worked rows are in `tests_rows`.
 #![tactic(auto)]
 
+#[cfg(test)]
+mod awaits;
 #[cfg(test)]
 mod checks;
 #[cfg(test)]

@@ -71,6 +71,22 @@ script 1.a.1;call 1.p.1 1.p.1|4 2
 script 1.a.9|3 4
 ";
 
+/// An await is a line of version 3, in a script.
+const AWAITS: &str = "\
+chorus 1;sites 2;script 1.a.1;await 1.p.1|4 2
+chorus 2;sites 2;script 1.a.1;await 1.p.1|4 2
+chorus 3;sites 2;await 1.p.1|3 7
+chorus 3;sites 2;script 1.a.1;schedule;await 1.p.1|5 7
+chorus 3;sites 2;script 1.a.1;claim nothing lost;await 1.p.1|5 7
+chorus 3;sites 2;script 1.a.1;await|4 2
+chorus 3;sites 2;script 1.a.1;await |4 2
+chorus 3;sites 2;script 1.a.1;await 1.p.1 2.p.1|4 2
+chorus 3;sites 2;script 1.a.1;await 1.a.1|4 3
+chorus 3;sites 2;script 1.a.1;await 1.p.01|4 3
+chorus 3;sites 2;script 1.a.1;await 3.p.1|4 4
+chorus 3;sites 2;script 1.a.1;await 2.p.9;schedule;step 1;step 1|7 10
+";
+
 const SCHEDULES: &str = "\
 script 1.a.1;take 1.p.1;schedule;step 0|6 10
 script 1.a.1;take 1.p.1;schedule;step 1;step 1|7 10
@@ -147,7 +163,7 @@ port 1.p.3 1.a.7 1;port 1.p.4 1.a.7 1|4 7
 ";
 
 /// Rows under the name of what they are refused for, with the sites of the layout, the places of each, and the front of the rows' texts.
-const REFUSED: [(&str, u16, u16, &str, &str); 11] = [
+const REFUSED: [(&str, u16, u16, &str, &str); 12] = [
     ("heads_and_sites", 16, 1, "", HEADS),
     ("heads_and_sites", 2, 1, "", "chorus 2;sites 3|2 6"),
     ("setup_lines", 16, 1, TWO_SITES, SETUPS),
@@ -159,6 +175,7 @@ const REFUSED: [(&str, u16, u16, &str, &str); 11] = [
         "",
         "chorus 2;sites 2;script 1.a.1;reply y|4 2",
     ),
+    ("awaits", 16, 1, "", AWAITS),
     ("schedules", 16, 1, TWO_SITES, SCHEDULES),
     (
         "limits_are_refused_with_line_and_reason",

@@ -68,6 +68,12 @@ fn delete_in_scenarios(rt: HostRuntime) {
     assert_rows(&rt, alloc, name, sixteen, "chorus 1\n", row.as_str());
 }
 
+/// Scenarios of version 3, with awaits.
+const AWAITS: &str = "\
+sites 2;script 1.a.1;await 2.p.1;take 2.p.1;await 2.p.1;script 2.a.1;send 2.p.1 =x;schedule;step 1;step 2
+sites 1;port 1.p.1 1.a.1 1;script 1.a.1;take 1.p.1;await 1.p.1;await 1.p.40;claim nothing lost;schedule
+";
+
 /// Scenarios that are already as they are printed.
 const SCENARIOS: &str = "\
 sites 1;script 1.a.1;schedule
@@ -99,6 +105,14 @@ fn assert_scenarios(rt: &impl Abort, alloc: Global) {
     }
 }
 
+/// Asserts that awaits are printed as they were read, and takes beside them as takes.
+fn assert_awaits(rt: &impl Abort, alloc: Global) {
+    let sixteen = layout_of(rt, 16, 1);
+    for scenario in AWAITS.lines() {
+        assert_printed_back(rt, alloc, sixteen, "chorus 3\n", scenario);
+    }
+}
+
 /// Asserts that a scenario with a port of capacity 64, and 65 sends of 240 bytes to it, is printed as it is.
 fn assert_sends(rt: &impl Abort, alloc: Global) {
     let mut send = repeated(rt, alloc, "send 1.p.1 =", "x", 240);
@@ -124,6 +138,7 @@ fn assert_turns(rt: &impl Abort, alloc: Global) {
 #[test]
 fn texts_are_read_and_printed_back(rt: HostRuntime) {
     assert_scenarios(&rt, rt.alloc());
+    assert_awaits(&rt, rt.alloc());
     assert_sends(&rt, rt.alloc());
     assert_turns(&rt, rt.alloc());
 }
