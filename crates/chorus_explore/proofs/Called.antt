@@ -14,12 +14,12 @@ use Rattle.chorus_explore.specs.Explored.{IsExploration}
 use Rattle.chorus_explore.specs.Stages.{MayWear}
 use Rattle.chorus_explore.proofs.Entering.{wears-late}
 
-module _ {S K : Type 0} (l : Layout) (most : ℕ) (left : S → Option (List ℕ)) (faults : S → ℕ) (reliable : S → Type 0) (from rest : S) (held : K → Option (List ℕ)) (failures : K → ℕ) where
+module _ {S K : Type 0} (l : Layout) (most first : ℕ) (left : S → Option (List ℕ)) (faults : S → ℕ) (reliable : S → Type 0) (from rest : S) (held : K → Option (List ℕ)) (failures : K → ℕ) where
   abbrev pub Reads : Status → Type 0
   Reads status = EndsReadingNoWait l status left faults reliable from rest
 
   abbrev pub EndsSo : K → K → Status → Type 0
-  EndsSo old new status = EndsAsExplore l most status left faults reliable from rest held failures old new
+  EndsSo old new status = EndsAsExplore l most first status left faults reliable from rest held failures old new
 
   -- before anything was gone over
   pub gave-up : (k : K) (status : Status) → GivesUp status → Reads status → EndsSo k k status
@@ -45,7 +45,7 @@ module _ {S K : Type 0} (l : Layout) (most : ℕ) (left : S → Option (List ℕ
     }
 
     -- by writing the text
-    pub wrote : (old new : K) (status : Status) (text : List ℕ) → IsExploration c most text → (status ≡ statuses.Done) ⊎ (status ≡ statuses.WriteFault) → Writes status (held old) (held new) text
+    pub wrote : (old new : K) (status : Status) (text : List ℕ) → IsExploration c most first text → (status ≡ statuses.Done) ⊎ (status ≡ statuses.WriteFault) → Writes status (held old) (held new) text
         → (status ≡ statuses.WriteFault → Rose (failures old) (failures new)) → EndsSo old new status
     wrote old new status text is (inl done) writes fault =
         let at_done = subst (λ (s : Status). Writes s (held old) (held new) text) done writes in

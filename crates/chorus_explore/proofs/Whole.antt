@@ -1,6 +1,6 @@
 -- Behind a whole history nothing is left, and so it is replayed.
 -- c is a scenario, ms are moves, the latest first, fs are findings.
-use Rattle.std.proofs.Common.{ℕ, suc, ◌≡◌, ◌==◌, Bool, true, ◌&&◌, not, cond, List, [], ◌∷◌, map, reverse, Option, Some, None, is_some, slice_get, refl, sym, ◌∙◌, ap, subst}
+use Rattle.std.proofs.Common.{ℕ, suc, ◌≡◌, ◌==◌, Bool, true, ◌&&◌, not, cond, List, [], ◌∷◌, ◌++◌, map, reverse, Option, Some, None, is_some, slice_get, refl, sym, ◌∙◌, ap, subst}
 use Rattle.std.specs.List.{All, Contains}
 use Rattle.std.specs.Option.{option_map}
 use Rattle.std.proofs.lemmas.Bool.{and_from, eq-eqb}
@@ -82,16 +82,16 @@ abbrev Shows : Scene → List (List Move) → Found (List ℕ) → Type 0
 Shows c histories z = IsShown (race_of c) (comes c) z × Contains histories z.shows
 
 pub shown-schedules-are-replayed : ShownSchedulesAreReplayed
-shown-schedules-are-replayed c most text shape keeps told = by told.explored.findings.items.items told.some.shown
+shown-schedules-are-replayed c most first text shape keeps told = by told.explored.findings.items.items told.some.shown
   where
-    by : (fs : List Finding) → All (Shows c told.histories) (map found_of fs) → All (IsReplayed c) fs
+    by : (fs : List Finding) → All (Shows c (told.histories ++ told.drawn)) (map found_of fs) → All (IsReplayed c) fs
     by [] h = All-nil (IsReplayed c)
     by (f ∷ fs) h =
-        let one = (All-head (Shows c told.histories) (found_of f) (map found_of fs) h).0 in
+        let one = (All-head (Shows c (told.histories ++ told.drawn)) (found_of f) (map found_of fs) h).0 in
         let ms = reverse f.moves.items in
         All-cons (IsReplayed c) f fs
         (record {
           comes_to = one.comes_to;
           closes = λ status closed ordered unworn. shows c ms status closed one.whole.0 (ended c ms one.whole shape keeps) ordered unworn;
         })
-        (by fs (All-tail (Shows c told.histories) (found_of f) (map found_of fs) h))
+        (by fs (All-tail (Shows c (told.histories ++ told.drawn)) (found_of f) (map found_of fs) h))

@@ -43,13 +43,13 @@ pub record IsReplayed (c : Scene) (f : Finding) : Type 0 where
 
 abbrev pub ShownSchedulesAreReplayed : Type 0
 ShownSchedulesAreReplayed =
-    (c : Scene) (most : ℕ) (text : List ℕ) → IsLayout c.layout → Keeps c → (told : IsExploration c most text) →
+    (c : Scene) (most first : ℕ) (text : List ℕ) → IsLayout c.layout → Keeps c → (told : IsExploration c most first text) →
     All (IsReplayed c) told.explored.findings.items.items
 
 -- and where no limit was met the lines of that history are among the outcomes that are told
 abbrev pub ReplaysAreTold : Type 0
 ReplaysAreTold =
-    (c : Scene) (most : ℕ) (text : List ℕ) → IsLayout c.layout → (told : IsExploration c most text) →
+    (c : Scene) (most first : ℕ) (text : List ℕ) → IsLayout c.layout → (told : IsExploration c most first text) →
     told.explored.is_cut ≡ false → (steps : List Step) (status : Status) (closed : Closed) →
     Keeps (record c { schedule = steps }) → IsOrdered c.layout (tasks (record c { schedule = steps })) status closed →
     worn_clock status ≡ None →

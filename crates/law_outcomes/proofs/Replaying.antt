@@ -1,10 +1,10 @@
 -- What a reader finds in a replay is among what is told.
 -- c is a scenario, steps are the lines behind `schedule`, ms are moves, k is a claim.
-use Rattle.std.proofs.Common.{ℕ, ◌≡◌, ◌<◌, Bool, true, false, List, [], ◌∷◌, ◌++◌, length, map, reverse, option_to_list, Some, inl, inr, refl, sym, ◌∙◌, ap, subst, append_assoc}
+use Rattle.std.proofs.Common.{ℕ, ◌≡◌, ◌<◌, Bool, true, false, List, [], ◌∷◌, ◌++◌, length, map, reverse, option_to_list, inl, inr, refl, sym, ◌∙◌, ap, subst, append_assoc}
 use Rattle.std.proofs.lemmas.Bool.{false≢true}
 use Rattle.std.specs.List.{All, Contains}
 use Rattle.std.proofs.lemmas.List.{map-append, reverse-reverse}
-use Rattle.std.proofs.lemmas.List.Elements.{All-contains, All-nil, All-cons, All-head, All-tail}
+use Rattle.std.proofs.lemmas.List.Elements.{All-contains, Contains-append_left, All-nil, All-cons, All-head, All-tail}
 use Rattle.chorus_ui.specs.Layout.{IsLayout}
 use Rattle.chorus_ui.specs.declared.layout.Layout.{Layout}
 use Rattle.law_explore.specs.declared.moves.Move.{Move}
@@ -54,48 +54,49 @@ replays-are-histories c steps closed shape replay =
 
 -- Outcomes.
 
-module _ (c : Scene) (most : ℕ) (text : List ℕ) (told : IsExploration c most text) where
+module _ (c : Scene) (most first : ℕ) (text : List ℕ) (told : IsExploration c most first text) where
   -- what a whole history comes to that was counted is told
   is-told : (ms : List Move) → IsWhole (race_of c) ms → AllAreFound told.explored (length ms) → Contains (texts_in told.explored) (comes c ms)
   is-told ms whole all =
       let fs = told.explored.findings.items.items in
-      All-contains (λ (h : List Move). Contains (texts_in told.explored) (comes c h)) told.histories ms
-      (subst (λ texts. All (λ (h : List Move). Contains texts (comes c h)) told.histories) (outcomes-are (race_of c) (comes c) fs) told.some.found)
-      (by all)
+      let hs = told.histories ++ told.drawn in
+      All-contains (λ (h : List Move). Contains (texts_in told.explored) (comes c h)) hs ms
+      (subst (λ texts. All (λ (h : List Move). Contains texts (comes c h)) hs) (outcomes-are (race_of c) (comes c) fs) told.some.found)
+      (Contains-append_left told.histories told.drawn ms (by all))
     where
       by : AllAreFound told.explored (length ms) → Contains told.histories ms
       by (inl uncut) = (told.all uncut).every ms whole
       by (inr few) = told.bounded ms whole few
 
 pub wholes-are-among-outcomes : WholesAreAmongOutcomes
-wholes-are-among-outcomes c most text closed told w all =
+wholes-are-among-outcomes c most first text closed told w all =
     subst (Contains (texts_in told.explored)) (sym w.reads.lines)
-    (is-told c most text told w.moves w.whole (subst (AllAreFound told.explored) w.reads.moves all))
+    (is-told c most first text told w.moves w.whole (subst (AllAreFound told.explored) w.reads.moves all))
 
 pub replays-are-among-outcomes : ReplaysAreAmongOutcomes
-replays-are-among-outcomes c most text steps closed shape told replay all =
-    wholes-are-among-outcomes c most text closed told (replays-are-histories c steps closed shape replay) all
+replays-are-among-outcomes c most first text steps closed shape told replay all =
+    wholes-are-among-outcomes c most first text closed told (replays-are-histories c steps closed shape replay) all
 
 abbrev Shows : Scene → List (List Move) → Found (List ℕ) → Type 0
 Shows c histories z = IsShown (race_of c) (comes c) z × Contains histories z.shows
 
 pub outcomes-are-of-replays : OutcomesAreOfReplays
-outcomes-are-of-replays c most text shape keeps told = by told.explored.findings.items.items told.some.shown (shown-schedules-are-replayed c most text shape keeps told)
+outcomes-are-of-replays c most first text shape keeps told = by told.explored.findings.items.items told.some.shown (shown-schedules-are-replayed c most first text shape keeps told)
   where
-    by : (fs : List Finding) → All (Shows c told.histories) (map found_of fs) → All (IsReplayed c) fs → All (IsSeen c) fs
+    by : (fs : List Finding) → All (Shows c (told.histories ++ told.drawn)) (map found_of fs) → All (IsReplayed c) fs → All (IsSeen c) fs
     by [] h g = All-nil (IsSeen c)
     by (f ∷ fs) h g =
-        let one = (All-head (Shows c told.histories) (found_of f) (map found_of fs) h).0 in
+        let one = (All-head (Shows c (told.histories ++ told.drawn)) (found_of f) (map found_of fs) h).0 in
         let at = All-head (IsReplayed c) f fs g in
         let ms = reverse f.moves.items in
         All-cons (IsSeen c) f fs
         (λ closed replay.
         let ordered = subst (λ (moves : List Move). IsOrdered c.layout (tasks (record c { schedule = map step_of moves })) replay.status closed) (sym (reverse-reverse f.moves.items)) replay.ordered in
         (closed-tells-outcome c ms closed shape keeps one.whole.0 (at.closes replay.status closed ordered replay.unworn).left).lines ∙ at.comes_to)
-        (by fs (All-tail (Shows c told.histories) (found_of f) (map found_of fs) h) (All-tail (IsReplayed c) f fs g))
+        (by fs (All-tail (Shows c (told.histories ++ told.drawn)) (found_of f) (map found_of fs) h) (All-tail (IsReplayed c) f fs g))
 
 pub texts-are-among-outcomes : TextsAreAmongOutcomes
-texts-are-among-outcomes l most input other old new stuck status closed shape told replay same unworn all =
+texts-are-among-outcomes l most first input other old new stuck status closed shape told replay same unworn all =
     let c = told.scene in
     let d = replay.runs.scene in
     let explored = given-whole l (Some input) c told.given in
@@ -104,7 +105,7 @@ texts-are-among-outcomes l most input other old new stuck status closed shape to
     -- nothing waits in what is explored, so nothing does here
     let none : HasNoWait d = subst HasNoWait (sym same) explored.1 in
     let ordered = (replays-without-waits l (Some other) stuck status closed shape replay none).0 in
-    replays-are-among-outcomes c most told.text d.schedule closed (subst IsLayout (sym layout) shape) told.explored
+    replays-are-among-outcomes c most first told.text d.schedule closed (subst IsLayout (sym layout) shape) told.explored
     (record {
       status = status;
       keeps = subst Keeps same keeps;

@@ -81,7 +81,7 @@ uncut-is false bound more h = refl
 uncut-is true bound more h = absurd (false≢true (sym h))
 
 pub all-is-uncut : AllIsUncut
-all-is-uncut c most text small told = (
+all-is-uncut c most first text small told = (
   λ says. all-is told.explored.is_cut told.explored.bound (rest told.explored) (sym line ∙ says),
   λ uncut. line ∙ uncut-is told.explored.is_cut told.explored.bound (rest told.explored) uncut,
 )

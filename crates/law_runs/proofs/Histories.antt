@@ -200,8 +200,8 @@ runs-are-histories c closed shape keeps run =
     plays-are-histories c (es c shape keeps closed run) closed shape keeps (played c shape keeps closed run) (left c shape keeps closed run)
 
 pub runs-are-among-outcomes : RunsAreAmongOutcomes
-runs-are-among-outcomes c most text closed shape keeps told run all =
-    wholes-are-among-outcomes c most text closed told (runs-are-histories c closed shape keeps run) all
+runs-are-among-outcomes c most first text closed shape keeps told run all =
+    wholes-are-among-outcomes c most first text closed told (runs-are-histories c closed shape keeps run) all
 
 pub runs-meet-claims : RunsMeetClaims
 runs-meet-claims c k closed shape keeps holds run =
@@ -212,7 +212,7 @@ unscheduled : (c : Scene) (steps : List Step) (closed : Closed) → IsOfWhole (r
 unscheduled c steps closed w = record { moves = w.moves; whole = w.whole; reads = record { lines = w.reads.lines; facts = w.reads.facts; acts = w.reads.acts; moves = w.reads.moves } }
 
 pub run-texts-are-among-outcomes : RunTextsAreAmongOutcomes
-run-texts-are-among-outcomes n most input other old new status closed told run same unworn rest all =
+run-texts-are-among-outcomes n most first input other old new status closed told run same unworn rest all =
     let d = run.scene in
     let last = run.all.last in
     let layout : d.layout ≡ layout_of n = (printed_again (layout_of n) run.given.bytes d run.given.given).0 in
@@ -223,5 +223,5 @@ run-texts-are-among-outcomes n most input other old new status closed told run s
       closes = subst (λ l. ClosesFor l (known last) closed) (sym layout) run.all.closes.for_actors;
       rest = rest;
     }) in
-    wholes-are-among-outcomes told.scene most told.text closed told.explored
+    wholes-are-among-outcomes told.scene most first told.text closed told.explored
     (unscheduled told.scene d.schedule closed (subst (λ (x : Scene). IsOfWhole x closed) same w)) all

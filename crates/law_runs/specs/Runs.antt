@@ -40,8 +40,8 @@ RunsAreHistories = (c : Scene) (closed : Closed) → IsLayout c.layout → Keeps
 -- of every run of fewer than N moves.
 abbrev pub RunsAreAmongOutcomes : Type 0
 RunsAreAmongOutcomes =
-    (c : Scene) (most : ℕ) (text : List ℕ) (closed : Closed) → IsLayout c.layout → Keeps c →
-    (told : IsExploration c most text) → IsRun c closed → AllAreFound told.explored (moves_read c closed) →
+    (c : Scene) (most first : ℕ) (text : List ℕ) (closed : Closed) → IsLayout c.layout → Keeps c →
+    (told : IsExploration c most first text) → IsRun c closed → AllAreFound told.explored (moves_read c closed) →
     Contains (texts_in told.explored) (outcome_of_closed c closed)
 
 -- And a claim that holds is met by every run: at its end, and, where it is asked at each moment, at each on the way of a
@@ -54,8 +54,8 @@ RunsMeetClaims =
 -- From bytes to bytes: where `explore` is done with one text, and `run` with one that says the same but for its schedule.
 abbrev pub RunTextsAreAmongOutcomes : Type 0
 RunTextsAreAmongOutcomes =
-    (n : Nucleus) (most : ℕ) (input other : List ℕ) (old new : Option (List ℕ)) (status : Status) (closed : Closed) →
-    (told : Tells (layout_of n) most Done (Some input) old new) → (run : HasAllPerformed n (Some other) status closed) →
+    (n : Nucleus) (most first : ℕ) (input other : List ℕ) (old new : Option (List ℕ)) (status : Status) (closed : Closed) →
+    (told : Tells (layout_of n) most first Done (Some input) old new) → (run : HasAllPerformed n (Some other) status closed) →
     run.scene ≡ record told.scene { schedule = run.scene.schedule } → worn_clock status ≡ None →
     closed.rest.items ≡ [] → AllAreFound told.explored.explored (moves_read told.scene closed) →
     Contains (texts_in told.explored.explored) (outcome_of_closed told.scene closed)
