@@ -60,8 +60,8 @@ module _ (c : Scene) where
 pub holding-claims-are-met : ReplaysAreWhole → HoldingClaimsAreMet
 holding-claims-are-met replays c most text is shape = (
   λ i d lt. (each i d lt).1,
-  λ steps status closed keeps ordered unworn.
-      (let one = replays c steps status closed shape keeps ordered unworn in
+  λ steps status closed keeps played unworn.
+      (let one = replays c steps status closed shape keeps played unworn in
       (one.0, (one.1.1, λ i d lt p. met-along c (get_or (claims_of c) i d) one.0 ((each i d lt).0 p) one.1.0))),
 )
   where

@@ -6,9 +6,9 @@ use Rattle.std.specs.Prelude.{ℕ, ◌≡◌, ◌≢◌, ◌≤◌, List, Option
 use Rattle.chorus_io.specs.Count.{Rose}
 use Rattle.chorus_ui.specs.declared.layout.Layout.{Layout}
 use Rattle.chorus_ui.specs.declared.limits.TheConstants.{CLOCK_LIMIT}
-use Rattle.chorus_report.specs.Ending.{EndsReadingNoWait}
+use Rattle.chorus_report.specs.Ending.{EndsReading}
 use Rattle.chorus_report.specs.Output.{Writes}
-use Rattle.chorus_report.specs.Reading.{IsGivenNoWait}
+use Rattle.chorus_report.specs.Reading.{IsGiven}
 use Rattle.chorus_scene.specs.Scene.{Scene}
 use Rattle.chorus_show.specs.declared.status.Status.{Status}
 use Rattle.chorus_show.specs.declared.status.Status.TheVariants.{Done, WriteFault, Worn}
@@ -19,7 +19,7 @@ use Rattle.chorus_explore.specs.Stages.{MayWear}
 -- status says
 pub record Tells (l : Layout) (most first : ℕ) (status : Status) (told old new : Option (List ℕ)) : Type 0 where
   pub scene : Scene
-  pub given : IsGivenNoWait l told (Ok scene)
+  pub given : IsGiven l told (Ok scene)
   pub text : List ℕ
   pub explored : IsExploration scene most first text
   pub written : Writes status old new text
@@ -27,7 +27,7 @@ pub record Tells (l : Layout) (most first : ℕ) (status : Status) (told old new
 -- there is a scenario that the source gives, and a schedule of it wears this clock
 pub record Wears (l : Layout) (told : Option (List ℕ)) (clock : ℕ) : Type 0 where
   pub scene : Scene
-  pub given : IsGivenNoWait l told (Ok scene)
+  pub given : IsGiven l told (Ok scene)
   pub wears : MayWear scene clock
   pub worn : CLOCK_LIMIT ≤ clock
 
@@ -41,7 +41,7 @@ ExploresBy l most first _ told old new = Unit {0}
 pub record EndsAsExplore {S K : Type 0} (l : Layout) (most first : ℕ) (status : Status)
     (left : S → Option (List ℕ)) (faults : S → ℕ) (reliable : S → Type 0) (from rest : S) (held : K → Option (List ℕ))
     (failures : K → ℕ) (old new : K) : Type 0 where
-  pub reads : EndsReadingNoWait l status left faults reliable from rest
+  pub reads : EndsReading l status left faults reliable from rest
   pub explores : ExploresBy l most first status (left from) (held old) (held new)
   pub write_fault : status ≡ WriteFault → Rose (failures old) (failures new)
   pub unwritten : status ≢ Done → status ≢ WriteFault → new ≡ old

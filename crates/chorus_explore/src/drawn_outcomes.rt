@@ -99,7 +99,7 @@ impl Outcomes {
     {
         let _scene = scenario.layout();
         let moves = Vec::from_slice(alloc, &stage.moves)?;
-        let (text, sites) = stage.outcome(alloc)?;
+        let (text, sites) = stage.outcome(alloc, scenario)?;
         explored.findings.add(alloc, text, &moves, 1)?;
         explored.histories = explored.histories.saturating_add(1);
         self.told.reserve(1)?;

@@ -7,7 +7,7 @@ ghost use Rattle.chorus_explore.specs.Ends.{EndsAsExplore};
 
 use crate::exploration::{ExploreFault, explore_scenario};
 use chorus_io::{Sink, Source, write_all};
-use chorus_report::read_without_awaits;
+use chorus_report::read_scenario;
 use chorus_show::Status;
 use chorus_ui::Layout;
 use std::alloc::Global;
@@ -29,7 +29,7 @@ pub fn explore<S: Source, K: Sink>(
     ensures { EndsAsExplore layout most first result S.left S.faults S.reliable source.old source.new
         K.held K.faults sink.old sink.new }
 {
-    let scenario = match read_without_awaits(alloc, source, layout) {
+    let scenario = match read_scenario(alloc, source, layout) {
         Ok(scenario) => scenario,
         Err(status) => return status,
     };

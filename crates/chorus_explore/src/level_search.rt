@@ -473,7 +473,7 @@ fn tell_end(
         return stage.restarted(alloc);
     }
     let moves = Vec::from_slice(alloc, &stage.moves)?;
-    let (text, sites) = stage.outcome(alloc)?;
+    let (text, sites) = stage.outcome(alloc, scenario)?;
     findings.add(alloc, text, &moves, number)?;
     Ok(sites)
 }

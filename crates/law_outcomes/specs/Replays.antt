@@ -9,7 +9,7 @@ use Rattle.chorus_ui.specs.declared.layout.Layout.{Layout}
 use Rattle.law_explore.specs.declared.moves.Move.{Move}
 use Rattle.law_explore.specs.Races.{IsWhole}
 use Rattle.law_moments.specs.Fronts.{AreFronts}
-use Rattle.law_replay.specs.Shown.{race_of, step_of}
+use Rattle.law_replay.specs.Shown.{race_of, step_of, IsPlayed}
 use Rattle.chorus_claims.specs.Pieces.{Claim, meets}
 use Rattle.chorus_scene.specs.Limits.{Keeps}
 use Rattle.chorus_scene.specs.Scene.{Scene}
@@ -19,8 +19,7 @@ use Rattle.chorus_show.specs.declared.status.Status.TheVariants.{Done}
 use Rattle.chorus_net.specs.declared.closed.Closed.{Closed}
 use Rattle.chorus_net.specs.Closing.{IsLeft, closed_journals}
 use Rattle.chorus_replay.specs.Laws.{worn_clock}
-use Rattle.chorus_replay.specs.Order.{tasks}
-use Rattle.chorus_replay.specs.Ordered.{IsOrdered, Replays}
+use Rattle.chorus_replay.specs.Ordered.{Replays}
 use Rattle.explore_report.specs.declared.findings.Finding.{Finding}
 use Rattle.explore_report.specs.declared.explored.Explored.{Explored}
 use Rattle.explore_report.specs.Findings.{texts_of}
@@ -34,7 +33,7 @@ use Rattle.law_outcomes.specs.Closed.{IsOfWhole, IsReadOf, acts_in, facts_of_clo
 pub record IsReplay (c : Scene) (steps : List Step) (closed : Closed) : Type 0 where
   pub status : Status
   pub keeps : Keeps (record c { schedule = steps })
-  pub ordered : IsOrdered c.layout (tasks (record c { schedule = steps })) status closed
+  pub played : IsPlayed (record c { schedule = steps }) status closed
   pub unworn : worn_clock status ≡ None
 
 abbrev pub ReplaysAreHistories : Type 0

@@ -13,7 +13,7 @@ returns-clause-tells c =
     let new = c.add.new.self.items.items in
     counts-one scene (moves_of c.args.stage) c.args.explored.now _
     (subst (λ (text : List ℕ). Counts text (moves_of c.args.stage) 1 old new)
-    (c.in_ok-outcome.ensures.text scene c.requires.reached c.requires.asks)
+    (c.in_ok-outcome.ensures.text c.requires.asks)
     (subst (λ (ms : List Move). Counts c.in_ok-outcome.field-0.items (reverse ms) 1 old new)
     (c.deref-2.ensures.value ∙ c.in_ok-moves.ensures.items ∙ c.deref.ensures.value) c.in_ok-add.ensures.counts))
     c.in_ok-add.ensures.sums c.saturating_add-explored.ensures refl (refl, refl)
