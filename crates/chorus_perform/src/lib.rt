@@ -25,6 +25,7 @@ mod lately;
 mod pace;
 mod performing;
 mod pumping;
+mod resting;
 mod rounds;
 mod runner;
 mod running;
@@ -32,6 +33,7 @@ mod setup;
 mod share;
 mod stay;
 mod stopped;
+mod waiting;
 
 pub use commands::perform_command;
 pub use gate::{Gate, OpenGate};

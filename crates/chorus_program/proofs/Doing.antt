@@ -13,14 +13,14 @@ use Rattle.chorus_nucleus.specs.declared.nucleus.Nucleus.{Nucleus}
 use Rattle.chorus_nucleus.specs.Passes.{layout_of}
 use Rattle.chorus_report.specs.declared.finished.Finished.{Finished}
 use Rattle.chorus_report.specs.Ending.{EndsReadingBy, EndsWriting}
-use Rattle.chorus_report.specs.Headline.{HasClock, RunsWhole}
+use Rattle.chorus_report.specs.Headline.{HasClock}
 use Rattle.chorus_report.specs.Output.{EndsUnread, summary_of, text_of, text_with}
 use Rattle.chorus_report.specs.Reading.{ReadsText, ReadsWithin}
 use Rattle.chorus_report.proofs.Ends.{ends-memory, gave-up-writes, none-closed, reads-as}
 use Rattle.chorus_replay.specs.Ends.{EndsAsLoad, EndsAsReplay}
 use Rattle.chorus_replay.specs.Load.{Loads}
 use Rattle.chorus_replay.specs.Ordered.{Replays}
-use Rattle.chorus_run.specs.Ends.{EndsAsRun}
+use Rattle.chorus_run.specs.Ends.{EndsAsRun, RunsTo}
 use Rattle.chorus_run.specs.Threads.{HasAllPerformed, HasWornOf, IsOfNucleus}
 use Rattle.chorus_audit.specs.Output.{Prints, ReadsBy}
 use Rattle.chorus_judge.specs.declared.judgement.Judgement.{Judgement}
@@ -134,9 +134,10 @@ module _ {S K : Type 0} (f : Finished) (is : f ≡ record { status = Memory; clo
 
   pub runs-none : (n : Nucleus) → EndsAsRun n f left faults reliable from from held failures old old
   runs-none n = record {
+    stuck = [];
     reads = reads-none (layout_of n);
-    writes = writes-none f is held failures old (text_of f.closed);
-    runs = none-closed Memory f (RunsWhole (layout_of n) (left from)) is;
+    writes = writes-none f is held failures old (text_with [] f.closed);
+    runs = none-closed Memory f (RunsTo (layout_of n) (left from) []) is;
     performs = none-closed Memory f (HasAllPerformed n (left from)) is;
     origin = none-closed Memory f (λ s. IsOfNucleus n) is;
     worn = none-closed Memory f HasWornOf is;

@@ -20,6 +20,7 @@ mod drawn_crew;
 mod finishing;
 mod report_parts;
 mod running;
+mod standing;
 
 pub use chorus_perform::{Gate, OpenGate, Stopped, perform};
 pub use chorus_replay::{LOAD_LIMIT, LOAD_SITES, load, replay};

@@ -24,7 +24,7 @@ use Rattle.law_history.proofs.Merging.{journals-keep-promises}
 use Rattle.law_closing.specs.Places.{PlaceNote}
 use Rattle.law_closing.specs.Remarks.{turns_in}
 use Rattle.chorus_scene.specs.Limits.{Keeps}
-use Rattle.chorus_scene.specs.Scene.{Scene, Script}
+use Rattle.chorus_scene.specs.Scene.{Scene, Script, HasNoWait}
 use Rattle.chorus_scene.specs.declared.scenario.Step.{Step}
 use Rattle.chorus_scene.proofs.Kept.{kept}
 use Rattle.chorus_scene.proofs.Law.{printed_again}
@@ -32,6 +32,7 @@ use Rattle.chorus_net.specs.declared.closed.Closed.{Closed}
 use Rattle.chorus_net.specs.Closing.{IsLeft}
 use Rattle.chorus_report.specs.Headline.{callers_of, commands_by}
 use Rattle.chorus_report.specs.Setup.{setup_commands}
+use Rattle.chorus_report.proofs.Awaiting.{given-whole}
 use Rattle.chorus_nucleus.specs.Closing.{ClosesAs, ClosesFor}
 use Rattle.chorus_nucleus.specs.Passes.{known, layout_of}
 use Rattle.chorus_perform.specs.Going.{BeginsUpTo}
@@ -219,7 +220,7 @@ run-texts-are-among-outcomes n most input other old new status closed told run s
     let keeps : Keeps d = kept (layout_of n) run.given.bytes d run.given.given in
     let w = runs-are-histories d closed (subst IsLayout (sym layout) run.all.closes.shape) keeps (record {
       known = known last;
-      performed = run.all.performed unworn;
+      performed = run.all.performed unworn (subst HasNoWait (sym same) (given-whole (layout_of n) (Some input) told.scene told.given).1);
       closes = subst (λ l. ClosesFor l (known last) closed) (sym layout) run.all.closes.for_actors;
       rest = rest;
     }) in
