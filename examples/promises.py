@@ -269,6 +269,24 @@ def summary(entries):
     return ['summary', *(f'{word} {number}' for word, number in rows), 'end']
 
 
+# Acts by which no command is answered.
+NO_COMMANDS = 'accept full already clients-full stale early no-port elsewhere gone no-member choose try told heard arrive done late'.split()
+
+
+def with_stuck(lines, entries, rest):
+    """The lines of the summary, and before its end those of scripts that may be stuck, as far as the rest has them."""
+    front, last = lines[:-1], 0
+    for line in rest[len(front):]:
+        found = re.fullmatch(rf'stuck ({NUMBER}) ({NUMBER})', line)
+        script, command = map(int, found.groups()) if found else (0, 0)
+        given = sum(entry[2] == script and entry[3] not in NO_COMMANDS for entry in entries)
+        if not last < script < 2**32 or command != given + 1:
+            break
+        front.append(line)
+        last = script
+    return [*front, lines[-1]]
+
+
 def judge(text, sites=16, turns=1):
     """The lines of the judgement, and the status."""
     lines = text.split('\n')
@@ -296,11 +314,11 @@ def judge(text, sites=16, turns=1):
         promises.follow(entry, line)
     if len(lines) <= 1 + int(head[1]):
         return wrong(len(lines), 99)
-    for line, (read, wanted) in enumerate(zip(lines[1 + len(entries):] + [None], summary(entries) + ['']), 2 + len(entries)):
-        if read != wanted:
-            return wrong(line, 99)
-    if len(lines) != len(entries) + 1 + len(summary(entries)) + 1:
-        return wrong(2 + len(entries) + len(summary(entries)), 99)
+    rest = lines[1 + len(entries):]
+    wanted = with_stuck(summary(entries), entries, rest[:-1])   # the last piece lacks its LF
+    if rest != [*wanted, '']:
+        shared = next((at for at, pair in enumerate(zip(rest[:-1], wanted)) if pair[0] != pair[1]), min(len(rest) - 1, len(wanted)))
+        return wrong(2 + len(entries) + shared, 99)
     found = promises.open()
     return [f'kept {len(entries)}', f'open {len(found)}', *found[:100]], 8 if found else 0
 
