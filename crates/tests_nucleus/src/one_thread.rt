@@ -238,10 +238,7 @@ fn take_ready_appends_what_it_takes(rt: HostRuntime) {
     play(&rt, &nucleus, &mut pass, &takes, false);
     retire(&nucleus, other, &mut pass);
     let closed = close(&rt, nucleus, pass);
-    let Some(journal) = closed.journals.first() else {
-        panic!(rt; "a journal");
-    };
-    assert!(rt; journal.len() == 4);
+    assert!(rt; closed.journals[0].len() == 4);
 }
 
 /// What a pass of a nucleus sent is worked off by another pass when the first one has ended.
