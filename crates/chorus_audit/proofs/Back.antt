@@ -8,8 +8,7 @@ use Rattle.std.proofs.lemmas.Slice.Eq.{bytes_eq-Decides}
 use Rattle.chorus_entry.specs.declared.act.Act.{Act}
 use Rattle.chorus_entry.specs.declared.entry.Entry.{Entry}
 use Rattle.chorus_show.specs.Lines.{entry_text}
-use Rattle.chorus_ui.specs.Decimals.{parse_decimal}
-use Rattle.chorus_show.specs.Reading.{parts, first, second, third, rest, u16_in, u32_in, act_in, four, entry_of}
+use Rattle.chorus_show.specs.Reading.{parts, four, entry_of}
 use Rattle.chorus_show.proofs.LineBack.{line, entry_back}
 use Rattle.chorus_show.specs.Bounds.{has_room, IsWithin}
 use Rattle.chorus_audit.specs.Calls.{held, entry_held}
@@ -48,23 +47,6 @@ pub none_printed : (text : List ℕ) (d : Entry) → entry_held (parts 32 text) 
 none_printed text d read other e h is =
     let same : d ≡ e = some_same d e (sym read ∙ read_back text e h is) in
     other (ap entry_text same ∙ is)
-
--- what is read has room
-room_if : (b : Bool) (a : Act) (d : Entry) (x y z : ℕ) → has_room a ≡ b → option_map entry_of (four (Some x) (Some y) (Some z) (if b then Some a else None)) ≡ Some d → has_room d.act ≡ true
-room_if true a d x y z e read = let same : entry_of (x, y, z, a) ≡ d = some_same (entry_of (x, y, z, a)) d read in ap (λ o. has_room o.act) (sym same) ∙ e
-room_if false a d x y z e read = absurd (none_some d read)
-
-room_of : (a b c : Option ℕ) (o : Option Act) (d : Entry) → option_map entry_of (four a b c (held o)) ≡ Some d → has_room d.act ≡ true
-room_of (Some a) (Some b) (Some c) (Some x) d read = room_if (has_room x) x d a b c refl read
-room_of (Some a) (Some b) (Some c) None d read = absurd (none_some d read)
-room_of (Some a) (Some b) None o d read = absurd (none_some d read)
-room_of (Some a) None c o d read = absurd (none_some d read)
-room_of None b c o d read = absurd (none_some d read)
-
-pub has_room_read : (text : List ℕ) (d : Entry) → entry_held (parts 32 text) ≡ Some d → has_room d.act ≡ true
-has_room_read text d read =
-    let ws = parts 32 text in
-    room_of (parse_decimal (first ws)) (u16_in (second ws)) (u32_in (third ws)) (act_in (rest (rest (rest ws)))) d read
 
 not_equal : (s t : List ℕ) → false ≡ bytes_eq s t → s ≢ t
 not_equal s t h e = false≢true (h ∙ (bytes_eq-Decides s t).1 e)

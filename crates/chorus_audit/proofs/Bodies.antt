@@ -1,10 +1,10 @@
 -- The bytes of a body, as they are read.
-use Rattle.std.proofs.Common.{◌≡◌, ◌≢◌, ℕ, ◌<◌, ◌≤◌, Bool, true, false, nat_le, if◌then◌else◌, Some, None, List, [], ◌∷◌, ◌++◌, length, refl, sym, ap, ◌∙◌, append_assoc, append-nil, length-append, arith}
+use Rattle.std.proofs.Common.{◌≡◌, ◌≢◌, ℕ, ◌<◌, ◌≤◌, Bool, true, false, nat_le, if◌then◌else◌, Some, None, List, [], ◌∷◌, ◌++◌, length, refl, sym, ap, ◌∙◌, append_assoc, length-append, arith}
 use Rattle.std.proofs.lemmas.Bool.Decides.{nat_tests}
 use Rattle.chorus_ui.specs.declared.limits.TheConstants.{BODY_LIMIT}
 use Rattle.chorus_show.specs.Bounds.{Is8, AreBytes}
 use Rattle.chorus_show.specs.Reading.{unescape}
-use Rattle.chorus_audit.specs.Calls.{short, IsUnescaped}
+use Rattle.chorus_audit.specs.Calls.{short}
 
 if_true : (b : Bool) (bytes : List ℕ) → b ≡ true → (if b then Some bytes else None) ≡ Some bytes
 if_true true bytes h = refl
@@ -30,18 +30,9 @@ pub record Sofar (text bytes left : List ℕ) : Type 0 where
   pub few : length bytes ≤ 4096
   pub bytes_are : AreBytes bytes
 
-pub at_first : (text : List ℕ) → Sofar text [] text
-at_first text = record { is = refl; few = omega arith; bytes_are = tt }
-
 pub one_byte : (text bytes left more : List ℕ) (b : ℕ) → Sofar text bytes left → unescape None left ≡ b ∷ unescape None more → b < 256 → length bytes ≢ 4096 → Sofar text (bytes ++ b ∷ []) more
 one_byte text bytes left more b h e small less = record {
   is = h.is ∙ ap (λ t. bytes ++ t) e ∙ sym (append_assoc bytes (b ∷ []) (unescape None more));
   few = omega (arith, length-append bytes (b ∷ []), h.few, less);
   bytes_are = bytes_end bytes b h.bytes_are small;
 }
-
-pub at_last : (text bytes left : List ℕ) → Sofar text bytes left → unescape None left ≡ [] → IsUnescaped bytes text
-at_last text bytes left h e = record { is = sym (h.is ∙ ap (λ t. bytes ++ t) e ∙ append-nil bytes); few = h.few; are_bytes = h.bytes_are }
-
-pub too_long : (text bytes left more : List ℕ) (b : ℕ) → Sofar text bytes left → unescape None left ≡ b ∷ unescape None more → length bytes ≡ 4096 → 4096 < length (unescape None text)
-too_long text bytes left more b h e full = omega (arith, ap length (h.is ∙ ap (λ t. bytes ++ t) e), length-append bytes (b ∷ unescape None more), full)

@@ -7,7 +7,7 @@ use Rattle.chorus_ui.specs.declared.layout.Layout.{Layout}
 use Rattle.chorus_ui.specs.Decimals.{parse_decimal}
 use Rattle.chorus_ui.proofs.Decimals.{parse_decimal_is}
 use Rattle.chorus_entry.specs.declared.entry.Entry.{Entry}
-use Rattle.chorus_world.specs.Steps.{State, opening, may, is_legal, next}
+use Rattle.chorus_world.specs.Steps.{State, may, is_legal, next}
 use Rattle.chorus_checker.specs.declared.fault.WorldFault.{WorldFault}
 use Rattle.chorus_checker.specs.declared.fault.WorldFault.TheVariants.{NotLegal, Memory}
 use Rattle.chorus_checker.specs.Refusals.{IsRefusal}
@@ -21,7 +21,7 @@ use Rattle.chorus_audit.specs.declared.judging.Audit.{Audit}
 use Rattle.chorus_audit.specs.declared.judging.Audit.TheVariants.{Legal, Wrong}
 use Rattle.chorus_show.specs.Bounds.{IsWithin, AreWithin}
 use Rattle.chorus_audit.specs.Calls.{behind}
-use Rattle.chorus_audit.specs.Tests.{head, Begins, IsNoEntry, IsUnlawful, lines_shared, AtHead, AtEntry, AtSummary, IsRead, IsVerdict}
+use Rattle.chorus_audit.specs.Tests.{head, Begins, IsNoEntry, IsUnlawful, lines_shared, AtEntry, AtSummary, IsRead, IsVerdict}
 use Rattle.chorus_audit.specs.Stops.{IsStop, TakesEntry}
 use Rattle.chorus_audit.proofs.Cutting.{cut_once}
 use Rattle.chorus_audit.proofs.Agreeing.{lines}
@@ -97,12 +97,6 @@ is_told text row word rest digits n whole parted is_word read =
 pub entry_front : (text row rest : List ℕ) (e : Entry) → text ≡ row ++ 10 ∷ rest → entry_text e ≡ row ++ 10 ∷ [] → text ≡ entry_text e ++ rest
 entry_front text row rest e whole is = whole ∙ sym (append_assoc row (10 ∷ []) rest) ∙ ap (λ s. s ++ rest) (sym is)
 
-pub no_line : (text : List ℕ) → lacks 10 text ≡ true → IsNoEntry text 99
-no_line text lacking = record {
-  is_rule = refl;
-  no_entry = λ e more h is. has_mark (line e) more (ap (lacks 10) (sym is) ∙ lacking);
-}
-
 pub no_entry_line : (text row rest : List ℕ) → text ≡ row ++ 10 ∷ rest → lacks 10 row ≡ true → ((e : Entry) → IsWithin e → entry_text e ≢ row ++ 10 ∷ []) → IsNoEntry text 99
 no_entry_line text row rest whole lacking none = record {
   is_rule = refl;
@@ -131,17 +125,6 @@ pub record Found (l : Layout) (text : List ℕ) (n : ℕ) (w : State) (rest : Li
   pub count_is : length w.past ≡ taken
   pub begins : Begins l text n (reverse w.past) rest
   pub shorter : taken + length rest ≤ length text
-
-found_none : (l : Layout) (text : List ℕ) (n : ℕ) (rest : List ℕ) → n < 2 ^ 32 → text ≡ head n ++ rest → Found l text n (opening l) rest 0
-found_none l text n rest small is = record {
-  layout_is = refl;
-  count_is = refl;
-  begins = record { number = small; few = omega arith; within = tt; legal = refl; is = is };
-  shorter = omega (arith, ap length is, length-append (head n) rest);
-}
-
-pub found_first : (l : Layout) (text : List ℕ) (n : ℕ) (w : State) (rest : List ℕ) → w ≡ opening l → n < 2 ^ 32 → text ≡ head n ++ rest → Found l text n w rest 0
-found_first l text n w rest e small is = subst (λ v. Found l text n v rest 0) (sym e) (found_none l text n rest small is)
 
 within_end : (es : List Entry) (e : Entry) → AreWithin es → IsWithin e → AreWithin (es ++ e ∷ [])
 within_end [] e h k = (k, tt)
@@ -186,10 +169,6 @@ found_next l text n w v rest more taken h less t =
     let here = subst (λ k. Found k text n w rest taken) (sym h.layout_is) h in
     let grown = one_more w.layout text n w.past rest more taken t.entry here less t.within t.is step.0 in
     subst (λ k. Found k text n v more (taken + 1)) h.layout_is (subst (λ u. Found w.layout text n u more (taken + 1)) step.1 grown)
-
--- what was read, with the verdict
-pub head_end : (l : Layout) (text : List ℕ) (w : State) → w ≡ opening l → ((n : ℕ) (rest : List ℕ) → n < 2 ^ 32 → text ≢ head n ++ rest) → IsRead l text (Wrong 1 99) (reverse w.past)
-head_end l text w is none = (AtHead (record { is_first = refl; is_rule = refl; no_head = none }), ap (λ v. reverse v.past) is)
 
 pub stop_end : (l : Layout) (text : List ℕ) (n : ℕ) (w : State) (rest : List ℕ) (taken rule : ℕ) → Found l text n w rest taken → taken < n → IsNoEntry rest rule ⊎ IsUnlawful w.layout w.past rest rule → IsRead l text (Wrong (taken + 2) rule) (reverse w.past)
 stop_end l text n w rest taken rule h less fails = (

@@ -1,7 +1,6 @@
 -- Where a check ends with all claims holding, each is so of every replay.
 -- c is a scenario, ks are claims, vs is what is said of them, n the number of the first.
-use Rattle.std.proofs.Common.{ℕ, zero, suc, ◌≡◌, ◌+◌, ◌<◌, Bool, true, false, cond, not, List, [], ◌∷◌, length, get_or, Option, Some, None, slice_get, ◌⊎◌, inl, inr, refl, sym, ◌∙◌, ap, arith}
-use Rattle.std.specs.List.{All}
+use Rattle.std.proofs.Common.{ℕ, zero, suc, ◌≡◌, ◌+◌, ◌<◌, Bool, true, false, cond, not, List, [], ◌∷◌, length, get_or, Option, Some, None, slice_get, ◌⊎◌, refl, sym, ◌∙◌, ap, arith}
 use Rattle.std.proofs.lemmas.Bool.{false≢true}
 use Rattle.chorus_claims.specs.Pieces.{Claim}
 use Rattle.chorus_scene.specs.Scene.{Scene}
@@ -10,7 +9,7 @@ use Rattle.chorus_explore.specs.Checked.{Judged, Verdict, verdicts_of}
 use Rattle.chorus_explore.specs.Shown.{ReplaysAreWhole}
 use Rattle.chorus_explore.proofs.Deciding.{met-along}
 use Rattle.chorus_check.specs.declared.checked.Checked.TheVariants.{Holds}
-use Rattle.chorus_check.specs.Kept.{HoldingClaimsAreMet, IsMetBy, IsShownPossible}
+use Rattle.chorus_check.specs.Kept.{HoldingClaimsAreMet, IsShownPossible}
 use Rattle.chorus_check.specs.Words.{checked_by, claim_fails, claims_of, first_failed, first_open, is_open}
 
 none-failed : (n : ℕ) (ks : List Claim) (vs : List Verdict) → first_failed n ks vs ≡ None → (i : ℕ) (k : Claim) (v : Verdict) → slice_get ks i ≡ Some k → slice_get vs i ≡ Some v → claim_fails k v ≡ false

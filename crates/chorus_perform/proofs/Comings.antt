@@ -115,19 +115,6 @@ entered-more n actor a b d p k e new same worn = record {
   worn = worn ∙ e.worn;
 }
 
-pub entered-same : (a b d : Pass) (k : ℕ) → HasEntered k a b → known d ≡ known b → caller_of d ≡ caller_of b → worn_by d ≡ worn_by b → HasEntered k a d
-entered-same a b d k e is same worn = record {
-  keeper = record {
-    seat = ap (λ (v : Knowledge PlaceNote). v.seat) is ∙ e.keeper.seat;
-    keeper = ap (λ (v : Knowledge PlaceNote). v.keeper) is ∙ e.keeper.keeper;
-    made = ap (λ (v : Knowledge PlaceNote). v.made) is ∙ e.keeper.made;
-    notes = ap (λ (v : Knowledge PlaceNote). v.notes) is ∙ e.keeper.notes;
-  };
-  mine = ap (λ (v : Knowledge PlaceNote). v.mine) is ∙ e.mine;
-  caller = same ∙ e.caller;
-  worn = worn ∙ e.worn;
-}
-
 pub new-ready : (n : Nucleus) (c : Scene) (i : ℕ) (script : Script) (actor : Ui) (b d p : Pass) → slice_get c.scripts i ≡ Some script → i < length c.scripts → Enters n actor b d p → (known b).made ≡ i + 1 → actor ≡ script.actor → IsReadyAt n c i (record { pass = p; done = false })
 new-ready n c i script actor b d p at lt new made who = record {
   inside = lt;

@@ -20,7 +20,7 @@ use Rattle.law_closing.specs.Remarks.{turns_in}
 use Rattle.chorus_calls.specs.Callers.{Seated}
 use Rattle.chorus_scene.specs.Scene.{Scene, Script}
 use Rattle.chorus_report.specs.Setup.{setup_commands}
-use Rattle.chorus_nucleus.proofs.Behind.{more-itself, more-more, shown-more}
+use Rattle.chorus_nucleus.proofs.Behind.{more-more, shown-more}
 use Rattle.chorus_nucleus.specs.declared.nucleus.Nucleus.{Nucleus}
 use Rattle.chorus_nucleus.specs.declared.pass.Pass.{Pass}
 use Rattle.chorus_nucleus.specs.Passes.{known, caller_of, worn_by}
@@ -122,19 +122,6 @@ none-ended n c begun rs ready = record {
 }
 
 -- It is retired: the last one first.
-
-pub retired-none : (c : Scene) (m : ℕ) (a : Pass) → (known a).notes ≡ [] → HasRetired true c m 0 a a
-retired-none c m a none = record {
-  later = subst (λ (ns : List (Note PlaceNote)). All (λ (x : Note PlaceNote). BeginAbove (caller_of a).last (turns_in x.mine)) ns) (sym none) (All-nil (λ (x : Note PlaceNote). BeginAbove (caller_of a).last (turns_in x.mine)));
-  notes = ap (λ (ns : List (Note PlaceNote)). length ns) none;
-  scripts = λ i note h. absurd (let bad : None ≡ Some note = sym (ap (λ (ns : List (Note PlaceNote)). slice_get (reverse ns) i) none) ∙ h in cc);
-  seat = refl;
-  mine = refl;
-  keeper = refl;
-  made = refl;
-  caller = more-itself (caller_of a);
-  unworn = λ e. refl;
-}
 
 abbrev LaterThan : ℕ → Note PlaceNote → Type 0
 LaterThan clock x = BeginAbove clock (turns_in x.mine)

@@ -35,10 +35,9 @@ use Rattle.chorus_lossy.specs.Output.{CarriesInput}
 use Rattle.chorus_words.specs.declared.words.TheConstants.{CHECK_MOST, EXPLORE_MOST}
 use Rattle.chorus_words.specs.declared.words.Words.{Words}
 use Rattle.chorus_words.specs.declared.words.Words.TheVariants as words
-use Rattle.chorus_program.specs.declared.running.TheConstants.{PROGRAM_SITES}
 use Rattle.chorus_check.specs.declared.schedules.Schedules.{Schedules}
 use Rattle.chorus_check.specs.declared.schedules.Schedules.TheVariants.{All, Drawn}
-use Rattle.chorus_program.specs.Running.{layout_asked, places_each, replay_layout, Does, DoesOnOneThread, EndsAsAudit, EndsAsChecked, EndsAsExplored, EndsAsJudge, EndsAsLossy, EndsAsPicture, EndsUnreadAsLoad, EndsWithCause, Suits}
+use Rattle.chorus_program.specs.Running.{layout_asked, places_each, replay_layout, Does, DoesOnOneThread, EndsAsAudit, EndsAsChecked, EndsAsExplored, EndsAsJudge, EndsAsLossy, EndsAsPicture, EndsWithCause}
 use Rattle.chorus_program.specs.Started.{DoesOnOwn, DoesOnStarted}
 
 -- Causes.
@@ -298,23 +297,3 @@ module _ {S K : Type 0} (f : Finished) (left : S → Option (List ℕ)) (faults 
   -- what is done on what was started for it
   pub on-started : (asked : Words) (o : Option Layout) → o ≡ layout_asked asked → DoesOnStarted o asked f left faults reliable from rest held failures old new → DoesOnOwn asked f left faults reliable from rest held failures old new
   on-started asked o same d = subst (λ (x : Option Layout). DoesOnStarted x asked f left faults reliable from rest held failures old new) same d
-
--- What is asked suits a nucleus that was started for it.
-pub suits : (n : Nucleus) (asked : Words) → Some (layout_of n) ≡ layout_asked asked → Suits n asked
-suits n words.Replay same = tt
-suits n words.Run same = tt
-suits n (words.RunOn turns) same = let is : layout_of n ≡ places_each PROGRAM_SITES turns = cc in sym (ap (λ (l : Layout). l.turns) is)
-suits n (words.Load first commands) same = tt
-suits n (words.Audit sites turns) same = tt
-suits n words.Check same = tt
-suits n (words.CheckMost most) same = tt
-suits n (words.CheckDrawn count first) same = tt
-suits n words.Judge same = tt
-suits n (words.JudgeFor sites turns) same = tt
-suits n (words.Picture sites turns) same = tt
-suits n (words.Lossy first) same = tt
-suits n words.Explore same = tt
-suits n (words.ExploreMost most) same = tt
-suits n (words.Crew first commands) same =
-    let is : layout_of n ≡ places_each PROGRAM_SITES 1 = cc in
-    let sites = ap (λ (l : Layout). l.sites) is in omega (arith, sites)

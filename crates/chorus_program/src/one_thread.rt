@@ -47,13 +47,13 @@ pub(crate) fn does_on_one_thread<S: Source, K: Sink>(
         K.faults sink.old sink.new }
 {
     match asked {
-        Words::Replay => start_replay(alloc, source, sink),
-        Words::Load { first, commands } => start_load(alloc, first, commands, sink),
-        Words::Audit { sites, turns } => start_audit(alloc, sites, turns, source, sink),
-        Words::Picture { sites, turns } => start_picture(alloc, sites, turns, source, sink),
-        Words::Lossy { first } => start_lossy(alloc, first, source, sink),
-        Words::Explore => start_explore(alloc, EXPLORE_MOST, source, sink),
-        Words::ExploreMost { most } => start_explore(alloc, most, source, sink),
+        Words::Replay => do_replay(alloc, source, sink),
+        Words::Load { first, commands } => do_load(alloc, first, commands, sink),
+        Words::Audit { sites, turns } => do_audit(alloc, sites, turns, source, sink),
+        Words::Picture { sites, turns } => do_picture(alloc, sites, turns, source, sink),
+        Words::Lossy { first } => do_lossy(alloc, first, source, sink),
+        Words::Explore => do_explore(alloc, EXPLORE_MOST, source, sink),
+        Words::ExploreMost { most } => do_explore(alloc, most, source, sink),
         Words::Run | Words::RunOn { .. } | Words::Crew { .. } => unreachable!(),
         Words::Judge | Words::JudgeFor { .. } => unreachable!(),
         Words::Check | Words::CheckMost { .. } | Words::CheckDrawn { .. } => unreachable!(),
@@ -61,7 +61,7 @@ pub(crate) fn does_on_one_thread<S: Source, K: Sink>(
 }
 
 /// Does the program's word `replay`, on sites that are started for it.
-fn start_replay<S: Source, K: Sink>(alloc: Global, source: &mut S, sink: &mut K) -> Finished
+fn do_replay<S: Source, K: Sink>(alloc: Global, source: &mut S, sink: &mut K) -> Finished
     ensures { EndsAsReplay replay_layout result S.left S.faults S.reliable
         source.old source.new K.held K.faults sink.old sink.new }
 {
@@ -72,7 +72,7 @@ fn start_replay<S: Source, K: Sink>(alloc: Global, source: &mut S, sink: &mut K)
 }
 
 /// Does the program's word `load`, on sites that are started for it.
-fn start_load<K: Sink>(alloc: Global, first: u64, commands: u32, sink: &mut K) -> Finished
+fn do_load<K: Sink>(alloc: Global, first: u64, commands: u32, sink: &mut K) -> Finished
     requires { commands ≤ LOAD_LIMIT }
     ensures { EndsAsLoad first commands result K.held K.faults sink.old sink.new }
 {
@@ -83,7 +83,7 @@ fn start_load<K: Sink>(alloc: Global, first: u64, commands: u32, sink: &mut K) -
 }
 
 /// Does the program's word `audit`: audits what the source gives, for so many sites with so many places each.
-fn start_audit<S: Source, K: Sink>(
+fn do_audit<S: Source, K: Sink>(
     alloc: Global,
     sites: u16,
     turns: u16,
@@ -101,7 +101,7 @@ fn start_audit<S: Source, K: Sink>(
 }
 
 /// Does the program's word `picture`: draws what the source gives, for so many sites with so many places each.
-fn start_picture<S: Source, K: Sink>(
+fn do_picture<S: Source, K: Sink>(
     alloc: Global,
     sites: u16,
     turns: u16,
@@ -119,12 +119,7 @@ fn start_picture<S: Source, K: Sink>(
 }
 
 /// Does the program's word `lossy`: carries what the source gives over two ends that are made for it.
-fn start_lossy<S: Source, K: Sink>(
-    alloc: Global,
-    first: u64,
-    source: &mut S,
-    sink: &mut K,
-) -> Finished
+fn do_lossy<S: Source, K: Sink>(alloc: Global, first: u64, source: &mut S, sink: &mut K) -> Finished
     ensures carries { EndsAsLossy first result
         (S.left source.old) (S.left source.new) (K.held sink.old) (K.held sink.new) }
     ensures causes { EndsWithCause result S.faults S.reliable source.old source.new
@@ -137,7 +132,7 @@ fn start_lossy<S: Source, K: Sink>(
 
 /// Does the program's word `explore`: tells what may come of the scenario that the source gives, with at most so many events
 /// carried out.
-fn start_explore<S: Source, K: Sink>(
+fn do_explore<S: Source, K: Sink>(
     alloc: Global,
     most: u32,
     source: &mut S,

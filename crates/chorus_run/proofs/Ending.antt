@@ -35,10 +35,6 @@ has-at [] i x clock lt is e = absurd (omega (arith, lt))
 has-at (y ∷ xs) zero x clock lt is e = inl (ap (λ (z : Bor Entry). z.now.clock) (sym is) ∙ e)
 has-at (y ∷ xs) (suc i) x clock lt is e = inr (has-at xs i x clock (omega (arith, lt)) is e)
 
-pub stops-at : (why : Stopped) (r : Result Played AllocError) (closed : Closed) (clock : ℕ) → why ≡ stops.Worn clock → IfOk r (λ p. p.closed ≡ closed) → IfOk r (λ p. p.worn ≡ Some clock) → IfOk r (λ p. HasClock clock (merge_of closed)) → IfOk r (λ p. CLOCK_LIMIT ≤ clock) → IfOk r (λ p. StopsAt why closed p)
-stops-at why (Ok p) closed clock is same worn entry high = record { clock = clock; is = is; closed_is = same; worn = worn; entry = entry; high = high }
-stops-at why (Err e) closed clock is same worn entry high = tt
-
 -- What was performed and closed plays the scenario.
 
 closed-worn : (n : Nucleus) (v : Pass) (closed : Closed) → IsClosed n v closed → worn_of closed ≡ worn_by v

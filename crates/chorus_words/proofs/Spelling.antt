@@ -156,10 +156,6 @@ pub by_three : (ws : List (List ℕ)) (what first second : Option (List ℕ)) (a
 by_three ws what first second asked e f g ask =
     (e ∙ ap (λ l. slice_get l 0) ask.0, f ∙ ap (λ l. slice_get l 1) ask.0, g ∙ ap (λ l. slice_get l 2) ask.0, ask.1)
 
--- the list has no row of more than three words
-pub too_long : (ws : List (List ℕ)) (asked : Words) → 3 < length ws → Ask ws asked → ⊥
-too_long ws asked l ask = let same : length ws ≡ length (spelled asked) = ap length ask.0 in absurd (omega (arith, few_words asked, same, l))
-
 -- Words that give no layout.
 
 turns_fit : (t : ℕ) → 1 ≤ t → t ≤ 4 → t ≢ 3 → ((t == 1) || (t == 2) || (t == 4)) ≡ true

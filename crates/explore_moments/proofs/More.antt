@@ -1,12 +1,12 @@
 -- Lines of lists, one element more, and what is in two lists together.
 -- f gives the lines of one element, xs and ys are lists, n is a number, q a port, ps are places.
-use Rattle.std.proofs.Common.{ℕ, zero, suc, ◌≡◌, ◌≢◌, ◌+◌, ◌<◌, ◌≤◌, ◌==◌, Bool, true, false, not, cond, ◌||◌, List, [], ◌∷◌, ◌++◌, length, map, take, reverse, option_to_list, Option, Some, None, Bor, slice_get, refl, sym, ◌∙◌, ap, ap₂, arith, append_assoc}
+use Rattle.std.proofs.Common.{ℕ, zero, suc, ◌≡◌, ◌≢◌, ◌+◌, ◌<◌, ◌≤◌, ◌==◌, Bool, true, false, not, cond, ◌||◌, List, [], ◌∷◌, ◌++◌, length, take, reverse, option_to_list, Option, Some, None, Bor, slice_get, refl, sym, ◌∙◌, ap, ap₂, arith}
 use Rattle.std.specs.List.{cons_option, flat_map, filter_map}
 use Rattle.std.specs.Option.{option_copied, option_map}
 use Rattle.std.specs.Slice.{IsItemAt}
 use Rattle.std.proofs.lemmas.Option.{slice_get_past, slice_get_read}
 use Rattle.std.proofs.lemmas.Bool.{ne_eqb}
-use Rattle.std.proofs.lemmas.List.{append-nil, map-append, reverse-append}
+use Rattle.std.proofs.lemmas.List.{append-nil, reverse-append}
 use Rattle.std.proofs.lemmas.List.Concat.{flat_map-append}
 use Rattle.std.proofs.lemmas.List.Elements.{filter_map-append}
 use Rattle.law_machine.specs.PlaceState.{PlaceState}
@@ -21,27 +21,13 @@ use Rattle.chorus_world.specs.GroupLaws.{copies_by}
 use Rattle.chorus_world.specs.Places.{copies}
 use Rattle.chorus_entry.specs.declared.record.PortRecord.{PortRecord}
 use Rattle.chorus_world.specs.Groups.{groups_made, members}
-use Rattle.chorus_calls.specs.Callers.{Seated}
-use Rattle.chorus_place.specs.Calls.{Place, state}
-use Rattle.law_explore.specs.Outcome.{Fact, Accepted, Members, held_in, made_at, made_by, port_fact, port_facts}
-use Rattle.law_explore.specs.Moment.{accept_facts, accepts_in, at_position, call_facts, caller_facts, copy_facts, facts_of, group_at, hand_facts, in_order, place_facts, sent_in}
+use Rattle.law_explore.specs.Outcome.{Fact, Accepted, Members, held_in, made_at, port_fact, port_facts}
+use Rattle.law_explore.specs.Moment.{accept_facts, accepts_in, at_position, copy_facts, facts_of, group_at, in_order, place_facts, sent_in}
 use Rattle.explore_report.specs.Facts.{fact_line, outcome_lines}
 use Rattle.explore_report.specs.Outcomes.{held_line}
 use Rattle.explore_report.proofs.More.{take-next}
 use Rattle.explore_report.proofs.Telling.{flat-flat, flat-map}
-use Rattle.explore_moments.specs.Moments.{group_lines, has_some, post_lines, states}
-
-pub some-append : {X : Type 0} (xs ys : List X) → has_some (xs ++ ys) ≡ (has_some xs || has_some ys)
-some-append [] ys = refl
-some-append (x ∷ xs) ys = refl
-
-pub some-map : {X Y : Type 0} (f : X → Y) (xs : List X) → has_some (map f xs) ≡ has_some xs
-some-map f [] = refl
-some-map f (x ∷ xs) = refl
-
-pub made-flat : (ps : List PlaceState) → made_at ps ≡ flat_map (λ (s : PlaceState). made_by s.journal) ps
-made-flat [] = refl
-made-flat (s ∷ ps) = ap (λ qs. made_by s.journal ++ qs) (made-flat ps)
+use Rattle.explore_moments.specs.Moments.{group_lines, has_some, post_lines}
 
 -- one number more
 pub numbers-next : (n first : ℕ) → numbers (n + 1) first ≡ numbers n first ++ (first + n) ∷ []
@@ -58,12 +44,6 @@ flat-numbers f n first =
 -- one element more, from the end on, and one place more
 pub reverse-next : {X : Type 0} (xs : List X) (i : ℕ) (x : X) → slice_get xs i ≡ Some x → reverse (take (i + 1) xs) ≡ x ∷ reverse (take i xs)
 reverse-next xs i x e = ap reverse (take-next xs i x e) ∙ reverse-append (take i xs) (x ∷ [])
-
-pub states-next : (ps : List Place) (i : ℕ) (p : Place) → slice_get ps i ≡ Some p → states (take (i + 1) ps) ≡ states (take i ps) ++ state p ∷ []
-states-next ps i p e = ap states (take-next ps i p e) ∙ map-append state (take i ps) (p ∷ [])
-
-pub places-next : (f : PlaceState → List ℕ) (ps : List Place) (i : ℕ) (p : Place) → slice_get ps i ≡ Some p → flat_map f (states (take (i + 1) ps)) ≡ flat_map f (states (take i ps)) ++ f (state p)
-places-next f ps i p e = ap (flat_map f) (states-next ps i p e) ∙ flat_map-append f (states (take i ps)) (state p ∷ []) ∙ ap (λ ys. flat_map f (states (take i ps)) ++ ys) (append-nil (f (state p)))
 
 -- What is told of a message, of the ports and of the groups.
 
@@ -93,9 +73,6 @@ pub group-lines : (s : PlaceState) (n : ℕ) → n ≡ groups_made s.journal
 group-lines s n e =
     ap (λ (m : ℕ). flat_map (λ (k : ℕ). fact_line (Members (group_at s k) (members (group_at s k) s.journal))) (numbers m 1)) e
     ∙ sym (flat-map fact_line (λ (k : ℕ). Members (group_at s k) (members (group_at s k) s.journal)) (numbers (groups_made s.journal) 1))
-
-pub caller-lines : (k : ℕ) (w : Seated) → outcome_lines (call_facts k w.client.outstanding) ++ outcome_lines (hand_facts k w.hand) ≡ outcome_lines (caller_facts k (Some w))
-caller-lines k w = sym (flat_map-append fact_line (call_facts k w.client.outstanding) (hand_facts k w.hand))
 
 -- the messages in order, one position more
 pub ordered-next : (accepts : List (ℕ × MsgId)) (n : ℕ) → filter_map (at_position accepts) (numbers (n + 1) 0) ≡ filter_map (at_position accepts) (numbers n 0) ++ option_to_list (at_position accepts n)

@@ -5,11 +5,9 @@ use Rattle.std.specs.List.{flat_map}
 use Rattle.chorus_ui.specs.declared.ui.Ui.{Ui}
 use Rattle.chorus_entry.specs.declared.id.MsgId.{MsgId}
 use Rattle.chorus_entry.specs.declared.packet.Packet.{Packet}
-use Rattle.chorus_calls.specs.Callers.{Seated}
 use Rattle.chorus_place.specs.Calls.{Place, state}
 use Rattle.law_machine.specs.PlaceState.{PlaceState}
-use Rattle.law_explore.specs.Outcome.{made_at}
-use Rattle.law_explore.specs.Moment.{post_facts, place_facts, moving_in, member_facts, caller_facts}
+use Rattle.law_explore.specs.Moment.{post_facts, moving_in, member_facts}
 use Rattle.explore_report.specs.Facts.{outcome_lines}
 use Rattle.explore_moments.specs.declared.messages.Copied.{Copied}
 use Rattle.explore_moments.specs.declared.ports.Accepted.{Accepted}

@@ -85,13 +85,6 @@ module _ (k : Claim) (text : List ℕ) (h : List Move) (old new : Judgement) whe
       by true e w = judges comes moments ks told is later w
       by false e w = absurd (false≢true e)
 
-pub not-asked : (k : Claim) (text : List ℕ) (h : List Move) (j : Judgement) → k.throughout ≡ false → JudgesAt false k text h j j
-not-asked k text h j no_ comes moments ends ks told is later later-ends was = by k.throughout no_ was
-  where
-    by : (b : Bool) → b ≡ false → IsJudged comes (cond b moments ends) k j → IsJudged comes (cond b (moments ++ ks) ends) k j
-    by true e w = absurd (false≢true (sym e))
-    by false e w = w
-
 pub asked-at-end : (is_end : Bool) (k : Claim) (text : List ℕ) (h : List Move) (old new : Judgement) → is_end ≡ true → Judges k text h old new → JudgesAt is_end k text h old new
 asked-at-end true k text h old new e judges = at-end k text h old new judges
 asked-at-end false k text h old new e judges = absurd (false≢true e)
@@ -99,26 +92,6 @@ asked-at-end false k text h old new e judges = absurd (false≢true e)
 pub asked-throughout : (is_end : Bool) (k : Claim) (text : List ℕ) (h : List Move) (old new : Judgement) → k.throughout ≡ true → Judges k text h old new → JudgesAt is_end k text h old new
 asked-throughout true k text h old new e judges = at-end k text h old new judges
 asked-throughout false k text h old new e judges = at-moment k text h old new e judges
-
-pub none-asked : (is_end : Bool) (k : Claim) (text : List ℕ) (h : List Move) (j : Judgement) → (not is_end && not k.throughout) ≡ true → JudgesAt is_end k text h j j
-none-asked true k text h j e = absurd (false≢true e)
-none-asked false k text h j e = not-asked k text h j (by k.throughout e)
-  where
-    by : (b : Bool) → not b ≡ true → b ≡ false
-    by true e = absurd (false≢true e)
-    by false e = refl
-
--- a claim that is asked at no moment any more
-pub none-wanted : (k : Claim) (text : List ℕ) (h : List Move) (j : Judgement) → (k.throughout && not (has_failed j)) ≡ false → JudgesAt false k text h j j
-none-wanted k text h j e = by k.throughout refl e
-  where
-    failed : (b : Bool) → not b ≡ false → b ≡ true
-    failed true e = refl
-    failed false e = absurd (false≢true (sym e))
-
-    by : (b : Bool) → k.throughout ≡ b → (b && not (has_failed j)) ≡ false → JudgesAt false k text h j j
-    by true is e = at-moment k text h j j is (stays-failed k text h j (failed (has_failed j) e))
-    by false is e = not-asked k text h j is
 
 -- What is kept of a claim.
 

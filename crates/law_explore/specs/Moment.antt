@@ -3,7 +3,6 @@
 -- journal.
 use Rattle.std.specs.Prelude.{ℕ, ◌+◌, ◌-◌, ◌==◌, if◌then◌else◌, List, [], ◌∷◌, ◌++◌, length, map, reverse, Option, Some, None, slice_get}
 use Rattle.std.specs.List.{flat_map, filter_map}
-use Rattle.std.specs.Option.{option_map}
 use Rattle.chorus_ui.specs.declared.kind.Kind.TheVariants.{Group}
 use Rattle.chorus_ui.specs.declared.ui.Ui.{Ui}
 use Rattle.chorus_ui.specs.Layout.{site_of}

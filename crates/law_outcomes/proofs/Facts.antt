@@ -55,18 +55,6 @@ stands c us vs h =
     let k = lacks-behind c us (c ∷ vs) h in
     false≢true (sym (not-true (c == c) (and_parts (not (c == c)) (lacks c vs) k).0) ∙ eq-eqb c c refl)
 
--- a word, and words behind it
-word-then : (xs us : List ℕ) (ts ws : List (List ℕ)) → lacks 32 xs ≡ true → lacks 32 us ≡ true → xs ++ spaced ts ≡ us ++ spaced ws → (xs ≡ us) × (spaced ts ≡ spaced ws)
-word-then xs us [] [] h k e = (sym (append-nil xs) ∙ e ∙ append-nil us, refl)
-word-then xs us [] (w ∷ ws) h k e = absurd (stands 32 us (w ++ spaced ws) (ap (lacks 32) (sym e ∙ append-nil xs) ∙ h))
-word-then xs us (t ∷ ts) [] h k e = absurd (stands 32 xs (t ++ spaced ts) (ap (lacks 32) (e ∙ append-nil us) ∙ k))
-word-then xs us (t ∷ ts) (w ∷ ws) h k e =
-    let rest = cut 32 xs us (t ++ spaced ts) (w ++ spaced ws) h k e in (rest.0, ap (λ zs. 32 ∷ zs) rest.1)
-
--- texts that begin with two bytes are two
-unlike : (a b : ℕ) (xs ys : List ℕ) → a < b → a ∷ xs ≡ b ∷ ys → ⊥
-unlike a b xs ys lt e = (let same : a ≡ b = cc in omega (arith, lt, same))
-
 -- Numbers, ids and names, which lack what stands between words and behind lines.
 
 record IsBetween (c : ℕ) : Type 0 where
@@ -142,15 +130,6 @@ act-tells a b h k e =
     ap (λ (x : Entry). x.act)
     (lines_tell_entries (with_act a) (with_act b) (record { clock = omega arith; place = omega arith; seat = omega arith; act = h }) (record { clock = omega arith; place = omega arith; seat = omega arith; act = k })
     (ap (λ t. phrase (decimal 0) (decimal 0 ∷ decimal 0 ∷ t ∷ []) ++ 10 ∷ []) e))
-
-name-tells : (q r : Ui) → IsName q → IsName r → name_text q ≡ name_text r → q ≡ r
-name-tells q r h k e =
-    (let same : acts.Empty q ≡ acts.Empty r = act-tells (acts.Empty q) (acts.Empty r) h k (ap (λ t. phrase (codes "empty") (t ∷ [])) e) in cc)
-
-id-tells : (x y : MsgId) → IsId x → IsId y → id_text x ≡ id_text y → x ≡ y
-id-tells x y h k e =
-    (let same : acts.Told x answers.NoPort ≡ acts.Told y answers.NoPort =
-    act-tells (acts.Told x answers.NoPort) (acts.Told y answers.NoPort) (h, tt) (k, tt) (ap (λ t. phrase (codes "told") (t ∷ answer_text answers.NoPort ∷ [])) e) in cc)
 
 abbrev id : MsgId
 id = record { seat = 1; number = 1; copy = 0 }

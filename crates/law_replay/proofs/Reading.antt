@@ -18,7 +18,7 @@ use Rattle.chorus_scene.specs.declared.limits.TheConstants.{TEXT_LIMIT, VERSION_
 use Rattle.chorus_lines.specs.Text.{cut, lines, is_text, is_skipped}
 use Rattle.chorus_scene.specs.Scene.{Scene}
 use Rattle.chorus_scene.specs.Making.{next_port, next_group, makes, made_after}
-use Rattle.chorus_scene.specs.Line.{Line, VersionLine, SitesLine, PortLine, GroupLine, MemberLine, ScriptLine, CommandLine, ClaimLine, ScheduleLine, StepLine, EndLine}
+use Rattle.chorus_scene.specs.Line.{Line, VersionLine, SitesLine, PortLine, GroupLine, MemberLine, CommandLine, ClaimLine, StepLine}
 use Rattle.chorus_scene.specs.Grammar.{State, opening, made, most_sites, is_no_claim, is_misspelled, is_beyond, command_is_unknown, names_unknown, repeats, is_not_given, cannot_go, is_unscheduled, is_far, judge_line, judge_word, judge_head, is_head, judge_bytes, after, then_after, next, read_scene}
 use Rattle.chorus_scene.specs.Laws.{Pass}
 use Rattle.chorus_scene.proofs.Law.{Tidy, Said, line_said, inv_text, inv_judge}

@@ -5,9 +5,6 @@ use Rattle.std.specs.Option.{option_map}
 abbrev pub SameBelow : {A : Type 0} → List A → List A → ℕ → Type 0
 SameBelow xs ys n = (i : ℕ) → i < n → slice_get xs i ≡ slice_get ys i
 
-pub none-below : {A : Type 0} (xs ys : List A) → SameBelow xs ys 0
-none-below xs ys i l = absurd (omega (arith, l))
-
 last-or-below : (i n : ℕ) → i < suc n → (i < n) ⊎ (i ≡ n)
 last-or-below zero zero l = inr refl
 last-or-below zero (suc n) l = inl (omega arith)
@@ -23,9 +20,6 @@ below-next P n h last i l = elim (last-or-below i n l) [
   | inl a ↦ h i a
   | inr e ↦ subst P (sym e) last
 ]
-
-pub one-below : {A : Type 0} (xs ys : List A) (n : ℕ) → SameBelow xs ys n → slice_get xs n ≡ slice_get ys n → SameBelow xs ys (suc n)
-one-below xs ys n h e = below-next (λ i. slice_get xs i ≡ slice_get ys i) n h e
 
 same-first : {A : Type 0} (x y : A) (xs ys : List A) → x ≡ y → xs ≡ ys → x ∷ xs ≡ y ∷ ys
 same-first x y xs ys e f = λ i. e i ∷ f i
@@ -50,11 +44,6 @@ none-at : {A : Type 0} (xs : List A) (n : ℕ) → slice_get xs n ≡ None → l
 none-at [] n e = omega arith
 none-at (x ∷ xs) zero e = absurd (cc)
 none-at (x ∷ xs) (suc n) e = let l = none-at xs n e in omega (arith, l)
-
-nothing-past : {A : Type 0} (xs : List A) (n : ℕ) → length xs ≤ n → slice_get xs n ≡ None
-nothing-past [] n l = refl
-nothing-past (x ∷ xs) zero l = absurd (omega (arith, l))
-nothing-past (x ∷ xs) (suc n) l = nothing-past xs n (omega (arith, l))
 
 pub same-till-none : {A : Type 0} (xs ys : List A) (n : ℕ) → SameBelow xs ys n → slice_get xs n ≡ None → slice_get ys n ≡ None → xs ≡ ys
 same-till-none [] [] n h e f = refl

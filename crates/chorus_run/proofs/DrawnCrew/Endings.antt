@@ -10,7 +10,6 @@ use Rattle.chorus_turn.specs.declared.knowledge.Knowledge.{Knowledge}
 use Rattle.chorus_turn.specs.declared.knowledge.Note.{Note}
 use Rattle.chorus_turn.specs.declared.knowledge.Placed.{Placed}
 use Rattle.std.proofs.lemmas.List.Elements.{All-nil}
-use Rattle.chorus_calls.specs.Callers.{Seated}
 use Rattle.law_network.specs.Calls.{first_actor}
 use Rattle.law_closing.specs.Actors.{AreIn}
 use Rattle.law_closing.specs.Places.{PlaceNote}
@@ -47,9 +46,6 @@ use Rattle.chorus_run.specs.DrawnCrew.Takes.{AreTallied, HasCrewed, HasTaken, Is
 use Rattle.chorus_run.specs.DrawnCrew.Ends.{EndsAsCrew, EndsWorn}
 
 -- The crew.
-
-pub none-out : (b : Pass) → IsKeeper 0 b → (known b).made ≡ length (known b).notes + 1
-none-out b k = let made = k.made in let notes = ap (λ (ns : List (Note PlaceNote)). length ns) k.notes in omega (arith, made, notes)
 
 pub all-ended : (n : Nucleus) (b c : Pass) → IsKeeper 0 b → IsRetired n b c → (known c).made ≡ length (known c).notes + 1
 all-ended n b c k r =

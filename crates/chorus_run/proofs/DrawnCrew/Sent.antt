@@ -37,9 +37,6 @@ leads-make count m site whole a b d x is same h g = λ c k.
 
 -- Messages are sent.
 
-command-of : Sending → Command
-command-of s = send_command s.site s.number
-
 sendings-next : (count m i x : ℕ) → count ≡ m + 1 → sendings count i x ≡ sending (site_drawn (number_of (next_state x))) i ++ sendings m (i + 1) (next_state x)
 sendings-next zero m i x is = absurd (omega (arith, is))
 sendings-next (suc count) m i x is =
@@ -72,9 +69,6 @@ pub sent-so : (o : Option ℕ) (site i : ℕ) (x : Command) (b d e : Pass) → o
 sent-so o site i x b d e is same g h =
     subst (λ p. Goes (commands_of (sending p i)) b e) (sym is)
     (goes-on (send_command site i ∷ []) b d e (subst (λ (y : Command). Goes (y ∷ []) b d) same g) h)
-
-pub not-sent : (o : Option ℕ) (i : ℕ) (b : Pass) → o ≡ None → Goes (commands_of (sending o i)) b b
-not-sent o i b is = subst (λ p. Goes (commands_of (sending p i)) b b) (sym is) (goes-not b)
 
 -- The pass stays what it is.
 

@@ -1,4 +1,4 @@
-use Rattle.std.proofs.Common.{ℕ, min, ◌≡◌, ◌<◌, ◌≤◌, length, reverse, refl, arith}
+use Rattle.std.proofs.Common.{ℕ, ◌≡◌, ◌<◌, ◌≤◌, length, reverse, refl, arith}
 use Rattle.std.proofs.lemmas.Option.{slice_get_read}
 use Rattle.explore_report.proofs.Judging.{all-judged, all-kept, none-yet, one-more, read-at}
 use Rattle.explore_report.proofs.judgements.judge_all.Goals as goal

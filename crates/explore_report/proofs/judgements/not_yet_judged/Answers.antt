@@ -1,7 +1,4 @@
-use Rattle.std.proofs.Common.{◌≡◌, length, None, arith}
-use Rattle.std.proofs.lemmas.List.Elements.{All-weaker}
-use Rattle.explore_report.specs.declared.judgements.Judgement.{Judgement}
-use Rattle.explore_report.specs.Judgements.{has_failed, unmet_in}
+use Rattle.std.proofs.Common.{◌≡◌, length, arith}
 use Rattle.explore_report.proofs.Judging.{none-kept, nothing-found}
 use Rattle.explore_report.proofs.judgements.not_yet_judged.Goals as goal
 

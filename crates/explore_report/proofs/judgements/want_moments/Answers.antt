@@ -1,4 +1,4 @@
-use Rattle.std.proofs.Common.{min, ◌≡◌, ◌<◌, ◌≤◌, false, length, refl, arith}
+use Rattle.std.proofs.Common.{◌≡◌, ◌<◌, ◌≤◌, false, length, refl, arith}
 use Rattle.std.proofs.lemmas.Option.{slice_get_read}
 use Rattle.explore_report.proofs.Judging.{all-judged, all-kept, none-more, none-so-far}
 use Rattle.explore_report.proofs.judgements.want_moments.Goals as goal

@@ -1,6 +1,6 @@
-use Rattle.std.proofs.Common.{◌≡◌, ◌&&◌, ◌||◌, not, true, false, reverse, sym, ◌∙◌, ap, arith}
+use Rattle.std.proofs.Common.{◌≡◌, ◌&&◌, ◌||◌, true, false, reverse, ◌∙◌, arith}
 use Rattle.std.proofs.lemmas.Result.{on_ok_weaker}
-use Rattle.explore_report.specs.Judgements.{Judges, JudgesAt, unmet_at, unmet_in, unmet_with}
+use Rattle.explore_report.specs.Judgements.{Judges, JudgesAt}
 use Rattle.explore_report.proofs.Judging.{asked-at-end, asked-throughout, keeps-asked}
 use Rattle.explore_report.proofs.judgements.Judgement.judge_at.Goals as goal
 use Rattle.explore_report.proofs.judgements.Judgement.judge_at.Goals.{else-not-is_end-via-then-not-is_end+else-not-is_throughout, else-not-is_end-via-else-not-is_end}

@@ -1,7 +1,7 @@
 use Rattle.std.proofs.Common.{ap, sym, subst}
 use Rattle.chorus_report.specs.declared.finished.Finished.{Finished}
 use Rattle.chorus_lossy.specs.Output.{CarriesInput}
-use Rattle.chorus_program.proofs.one_thread.start_lossy.Goals as goal
+use Rattle.chorus_program.proofs.one_thread.do_lossy.Goals as goal
 
 pub returns-clause-carries : goal.returns-clause-carries
 returns-clause-carries g c =

@@ -4,7 +4,7 @@ use Rattle.chorus_explore.specs.Ends.{EndsAsExplore}
 use Rattle.chorus_report.specs.declared.finished.Finished.{Finished}
 use Rattle.chorus_program.specs.Running.{replay_layout}
 use Rattle.chorus_program.proofs.Doing.{causes-explored}
-use Rattle.chorus_program.proofs.one_thread.start_explore.Goals as goal
+use Rattle.chorus_program.proofs.one_thread.do_explore.Goals as goal
 
 pub returns-clause-causes : goal.returns-clause-causes
 returns-clause-causes g c =
