@@ -24,4 +24,3 @@ pub mod Pairs
 pub mod Rests
 pub mod Parting
 pub mod SiteTurns
-pub mod ReadyTakes

@@ -3,4 +3,3 @@ pub mod Flowing
 pub mod Turning
 pub mod Steps
 pub mod Published
-pub mod Readied

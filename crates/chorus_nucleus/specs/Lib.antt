@@ -10,7 +10,6 @@ pub mod Closing
 pub mod Runs
 pub mod Answers
 pub mod Taking
-pub mod Ready
 pub mod Posted
 pub mod Rounds
 pub mod Leavings

@@ -3,4 +3,3 @@ pub mod Turning
 pub mod Drafts
 pub mod Jobs
 pub mod Reading
-pub mod Readiness

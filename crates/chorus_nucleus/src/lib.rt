@@ -1,12 +1,12 @@
 //! The nucleus of running threads: the places of a layout, at which callers take turns.
 //!
-//! A command, a take that is made only where a message waits, a look at an outcome, a serve, a publish and a pump, which serves and then
-//! publishes, are one turn each, at one place, which they try once; only `take_when_free` tries again. A command waits for nobody;
-//! `start`, `serve`, `publish`, `pump`, `close` and `take_when_free` may wait. The layer above rests on this: a command that is answered
-//! has appended the entries that the place machine gives, of which the first is its own act; a serve works off one packet as that machine
-//! does, or adds nothing, and a take where nothing waits adds nothing; a publish or a locate tells where ports are without an entry;
-//! whatever a call shows raises its caller's clock, so that each entry stands behind all that its pass had seen; and what a closed nucleus
-//! hands out is the network of every schedule of its turns, so that the merge of its journals is a run of the world.
+//! A command, a look at an outcome, a serve, a publish and a pump, which serves and then publishes, are one turn each, at one place, which
+//! they try once; only `take_when_free` tries again. A command waits for nobody; `start`, `serve`, `publish`, `pump`, `close` and
+//! `take_when_free` may wait. The layer above rests on this: a call that answers has appended the entries that the place machine gives,
+//! of which the first is the command's own act; a serve works off one packet as that machine does, or adds nothing; a publish or a
+//! locate tells where ports are without an entry; whatever a call shows raises its caller's clock, so that each entry stands behind all
+//! that its pass had seen; and what a closed nucleus hands out is the network of every schedule of its turns, so that the merge of its
+//! journals is a run of the world.
 //!
 //! `site_turns` has the state at which callers take turns, and a job for each kind of turn.
 //!
@@ -28,7 +28,6 @@ mod nucleus;
 mod pass;
 mod publish;
 mod pump;
-mod ready;
 mod serving;
 mod sight;
 mod site_turns;

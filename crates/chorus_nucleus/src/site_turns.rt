@@ -12,7 +12,6 @@ mod draft;
 mod outcome_turn;
 mod publish_turn;
 mod pump_turn;
-mod ready_turn;
 mod serve_turn;
 mod site;
 
@@ -21,6 +20,5 @@ pub(crate) use draft::Draft;
 pub(crate) use outcome_turn::Asks;
 pub(crate) use publish_turn::Publishes;
 pub(crate) use pump_turn::Pumps;
-pub(crate) use ready_turn::TakesReady;
 pub(crate) use serve_turn::Serves;
 pub(crate) use site::{Remark, Site};

@@ -16,7 +16,6 @@ use Rattle.chorus_scene.specs.Scene.{Scene}
 use Rattle.chorus_scene.specs.declared.scenario.Step.{Step}
 use Rattle.chorus_show.specs.declared.status.Status.{Status}
 use Rattle.chorus_show.specs.declared.status.Status.TheVariants.{Done}
-use Rattle.chorus_show.specs.declared.stuck.Stuck.{Stuck}
 use Rattle.chorus_net.specs.declared.closed.Closed.{Closed}
 use Rattle.chorus_net.specs.Closing.{IsLeft, closed_journals}
 use Rattle.chorus_replay.specs.Laws.{worn_clock}
@@ -80,9 +79,8 @@ OutcomesAreOfReplays =
 -- schedule.
 abbrev pub TextsAreAmongOutcomes : Type 0
 TextsAreAmongOutcomes =
-    (l : Layout) (most : ℕ) (input other : List ℕ) (old new : Option (List ℕ)) (stuck : List Stuck) (status : Status)
-    (closed : Closed) → IsLayout l → (told : Tells l most Done (Some input) old new) →
-    (replay : Replays l (Some other) stuck status closed) →
+    (l : Layout) (most : ℕ) (input other : List ℕ) (old new : Option (List ℕ)) (status : Status) (closed : Closed) →
+    IsLayout l → (told : Tells l most Done (Some input) old new) → (replay : Replays l (Some other) status closed) →
     replay.runs.scene ≡ record told.scene { schedule = replay.runs.scene.schedule } → worn_clock status ≡ None →
     AllAreFound told.explored.explored (moves_read told.scene closed) →
     Contains (texts_in told.explored.explored) (outcome_of_closed told.scene closed)

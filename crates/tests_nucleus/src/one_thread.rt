@@ -216,34 +216,6 @@ fn close_asks_for_all_passes(rt: HostRuntime) {
     close(&rt, nucleus, pass);
 }
 
-/// A take that is made only where a message waits finds none in a port that is not made, that is empty, or that another actor holds,
-/// and appends nothing then.
-#[test]
-fn take_ready_appends_what_it_takes(rt: HostRuntime) {
-    let (nucleus, mut pass) = start(&rt, rt.alloc(), 1, 1);
-    let mut other = enter(&rt, &nucleus, &mut pass, 1, 2);
-    let none = [(Call::TakeReady, Told::NoneReady)];
-    let sends = [
-        (Call::TakeReady, Told::NoneReady),
-        (Call::MakePort { site: 1 }, made(&rt, 1)),
-        (Call::TakeReady, Told::NoneReady),
-        (Call::Send, accepted(1, 0)),
-    ];
-    let takes = [
-        (Call::TakeReady, Told::Taken(0)),
-        (Call::TakeReady, Told::NoneReady),
-    ];
-    play(&rt, &nucleus, &mut pass, &sends, false);
-    play(&rt, &nucleus, &mut other, &none, false);
-    play(&rt, &nucleus, &mut pass, &takes, false);
-    retire(&nucleus, other, &mut pass);
-    let closed = close(&rt, nucleus, pass);
-    let Some(journal) = closed.journals.first() else {
-        panic!(rt; "a journal");
-    };
-    assert!(rt; journal.len() == 4);
-}
-
 /// What a pass of a nucleus sent is worked off by another pass when the first one has ended.
 #[test]
 fn a_packet_goes_on_behind_its_sender(rt: HostRuntime) {

@@ -39,8 +39,6 @@ pub(crate) enum Call {
     Reply,
     /// A message is taken at the port.
     Take,
-    /// A message is taken at the port where one waits.
-    TakeReady,
     /// The port moves to this actor of the site.
     Move { site: u16, number: u64 },
     /// The port is deleted.
@@ -64,8 +62,6 @@ pub(crate) enum Told {
     Replied(Reply),
     /// A message was taken at this position.
     Taken(u64),
-    /// No message waited, and nothing was taken.
-    NoneReady,
     /// What became of the message.
     Outcome(Outcome),
     /// A packet from this place was worked off.
@@ -178,18 +174,6 @@ fn outcome(nucleus: &Nucleus, pass: &mut Pass, id: MsgId) -> Told
     }
 }
 
-/// Takes at the port where a message waits, and gives what the pass is told.
-fn take_ready(rt: &impl Abort, nucleus: &Nucleus, pass: &mut Pass) -> Told
-    requires { IsPassOf nucleus.now pass.old }
-    ensures { IsPassOf nucleus.now pass.new }
-{
-    match nucleus.take_ready(pass, port_of(rt, 1, 1)) {
-        Ok(Some(taken)) => Told::Taken(taken.position),
-        Ok(None) => Told::NoneReady,
-        Err(why) => fault(why),
-    }
-}
-
 /// What the pass is told of a serve or a pump.
 fn served(done: Result<Pump, CallFault>) -> Told {
     match done {
@@ -248,7 +232,6 @@ fn tell<R: Wait + Abort>(rt: &R, nucleus: &Nucleus, pass: &mut Pass, call: Call)
     ensures { IsPassOf nucleus.now pass.new }
 {
     match call {
-        Call::TakeReady => take_ready(rt, nucleus, pass),
         Call::Outcome(id) => outcome(nucleus, pass, id),
         Call::Pump { place } => pump(rt, nucleus, pass, place),
         Call::Serve { place } => serve(rt, nucleus, pass, place),

@@ -1,7 +1,6 @@
-//! What the program prints for worked scenarios: replayed, and one of one script also run on threads; and which words take awaits.
+//! What the program prints for worked scenarios: replayed, and one of one script also run on threads.
 
-use crate::ground::{assert_prints, assert_same, run_on};
-use chorus_show::Status;
+use crate::ground::assert_prints;
 use tests_rows::FULL_THEN_TAKEN_THEN_EMPTY;
 
 /// A port of site 16 is sent to from site 1, and moves to site 1.
@@ -60,52 +59,5 @@ fn worked_scenarios_are_printed(rt: HostRuntime) {
     ];
     for (words, scenario, printed) in each {
         assert_prints(&rt, rt.alloc(), words, scenario, printed);
-    }
-}
-
-/// A script waits for a message that does not come.
-const WAITS: &str = "\
-chorus 3
-sites 1
-script 1.a.1
-await 1.p.1
-schedule
-end
-";
-
-/// What is printed for its replay.
-const WAITS_PRINTED: &str = "\
-journal 0
-summary
-posted 0
-accepted 0
-taken 0
-queued 0
-moving 0
-refused 0
-stale 0
-departs 0
-stuck 1 1
-end
-";
-
-/// A scenario that waits is replayed, and refused at line 0, for reason 2, by the words that take no awaits: nothing is written.
-#[test]
-fn awaits_are_replayed_alone(rt: HostRuntime) {
-    let alloc = rt.alloc();
-    assert_prints(&rt, alloc, &["replay"], WAITS, WAITS_PRINTED);
-    let refusing: [&[&str]; 6] = [
-        &["run"],
-        &["run", "4"],
-        &["explore"],
-        &["explore", "10"],
-        &["check"],
-        &["drawn", "9", "7"],
-    ];
-    for words in refusing {
-        let run = run_on(&rt, alloc, words, WAITS);
-        let refused = Status::Scenario { line: 0, reason: 2 };
-        assert_same(&rt, run.status, refused, words);
-        assert_same(&rt, run.written.as_str(), "", words);
     }
 }
