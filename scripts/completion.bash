@@ -7,7 +7,8 @@ _chorus() {
     case $((COMP_CWORD - first)),${COMP_WORDS[first]-} in
     0,*) words="help version $([[ " ${COMP_WORDS[*]:1:first-1} " == *--unproved* ]] || echo --unproved) $([[ " ${COMP_WORDS[*]:1:first-1} " == *--progress* ]] || echo --progress) $("$script" help | sed -n 's/^  \([a-z][a-z]*\) .*/\1/p' | sort -u)" ;;
     1,help) words=$("$script" help | sed -n 's/^  \([a-z][a-z]*\) .*/\1/p' | sort -u) ;;
-    1,audit | 1,judge | 1,picture | 1,page) words=16 ;;
+    1,judge) words='promises 16' ;;
+    1,audit | 1,picture | 1,page) words=16 ;;
     2,audit | 2,judge | 2,picture | 2,page | 1,run) words='1 2 4' ;;
     1,explore) words=--scenario ;;
     1,check) words=--drawn ;;

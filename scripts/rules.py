@@ -1,6 +1,7 @@
 """What a line of a journal needs, in words: of each rule its conditions, by the numbers by which `judge` names the one that fails.
 
-The program alone judges a journal (crates/judge_rules/specs/Conditions.antt has the conditions). This has their words."""
+The program alone judges a journal (crates/judge_rules/specs/Conditions.antt has the conditions, and those of a judgement by promises are
+in crates/judge_promises/specs/Conditions.antt). This has their words."""
 
 # Each act, by its word: its rule is its place here, from 1. Its words are those of its conditions from the second on; the first is that
 # its names are of their kinds. {0}, {1} .. are the fields of the act.
@@ -90,6 +91,37 @@ TAGS = {
     "request": ["a request goes to a port", "it is the next request of the caller, or its outstanding one again"],
     "reply": ["it answers the request that the caller holds, at the port that this asks for"],
 }
+# What an act promises, by which `judge promises` judges: its words are those of its conditions from the first on.
+SENT = ["{0} was sent to {1}", "{0} is not decided yet"]
+ASKED = ["{0} is a post to {1}", "no member was chosen for {0} before, and none was found wanting"]
+PROMISES = {
+    "make": ["{0} was not made before", "its room is 1 to 64"],
+    "post": [
+        "the id {0} is one of the caller {seat}, and ends with 0",
+        "the number of {0} is above those of all that the caller posted before",
+    ],
+    "accept": [
+        *SENT,
+        HELD % 1,
+        "{1} has room",
+        "{2} messages were accepted before it",
+        "its number is above those of all that {1} accepted of the same caller by the same way, directly or by one group",
+        "{1} did not accept this request before",
+    ],
+    "full": [*SENT, HELD % 1, "{2} messages wait in {1}, and it has no room for more"],
+    "already": [*SENT, HELD % 1, "{1} accepted this request before, or a later one of its caller"],
+    "clients-full": [*SENT, HELD % 1, "{0} is a request"],
+    "early": [*SENT, "{1} is on its way to place {place} by hop {2}"],
+    "no-port": [*SENT, "{1} was not made"],
+    "elsewhere": [*SENT, "{0} is for one site"],
+    "no-member": ASKED,
+    "choose": [*ASKED, "members are chosen, none of them twice, and one alone where {0} is for one"],
+    "take": [HELD % 0, "{2} waits first in {0}", "{1} messages were taken before it"],
+    "depart": [HELD % 0, "there is a place {1}, and it is another one", "hop {3} is the next one of {0}"],
+    "arrive": ["{0} is on its way to place {place}", "it left by hop {1}"],
+    "delete": [HELD % 0, "the messages that it names are those that wait in {0}, in order"],
+    "gone": [*SENT, "{1} was deleted"],
+}
 OF_A_CLOCK = ["there is a place {place}", "its clock is above the last one of place {place}"]
 KINDS, REPLY_RULE, NO_LINE = "its names are of the kinds that the act asks for", 41, 99
 BEHIND_A_REPLY = "directly behind the take of a reply a done or a late stands at its place"
@@ -104,4 +136,11 @@ def words_of(line, rule, condition):
         words = OF_A_CLOCK
     else:
         words = [KINDS, *WORDS[act], *(TAGS[next(it for it in fields[3:] if it in TAGS)] if act == "post" else [])]
+    return words[condition - 1].format(*fields, place=place, seat=seat)
+
+
+def promise_of(line, rule, condition):
+    """What this condition of a rule asks of the entry of a line, by promises."""
+    _, place, seat, act, *fields = line.split(" ")
+    words = PROMISES[act] if rule else [*OF_A_CLOCK, KINDS]
     return words[condition - 1].format(*fields, place=place, seat=seat)

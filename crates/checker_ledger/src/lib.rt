@@ -18,3 +18,4 @@ mod tables;
 pub use groups::choosing_place;
 pub use ledger::Ledger;
 pub use port_state::PortState;
+pub use ports::{fate_in, follow_ports};

@@ -12,7 +12,7 @@ use std::alloc::{AllocError, Global};
 use std::collections::HashMap;
 
 /// The port's fate, by its row in the table of ports.
-pub(crate) fn fate_in(ports: &HashMap<PortKey, PortState>, port: Ui) -> Option<&PortState>
+pub fn fate_in(ports: &HashMap<PortKey, PortState>, port: Ui) -> Option<&PortState>
     ensures { option_copied result ≡ fate_in ports.now port }
 {
     ports.get(&PortKey { port })
@@ -44,7 +44,7 @@ fn change(ports: &mut HashMap<PortKey, PortState>, port: Ui, act: &Act) -> Resul
 }
 
 /// The ports after the entry. An error leaves them as they were.
-pub(crate) fn follow_ports(
+pub fn follow_ports(
     ports: &mut HashMap<PortKey, PortState>,
     alloc: Global,
     entry: &Entry,

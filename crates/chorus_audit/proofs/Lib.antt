@@ -5,3 +5,4 @@ pub mod Agreeing
 pub mod Verdicts
 pub mod Steps
 pub mod Bodies
+pub mod Lined

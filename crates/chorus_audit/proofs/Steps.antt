@@ -143,11 +143,11 @@ found_none l text n rest small is = record {
 pub found_first : (l : Layout) (text : List ℕ) (n : ℕ) (w : State) (rest : List ℕ) → w ≡ opening l → n < 2 ^ 32 → text ≡ head n ++ rest → Found l text n w rest 0
 found_first l text n w rest e small is = subst (λ v. Found l text n v rest 0) (sym e) (found_none l text n rest small is)
 
-within_end : (es : List Entry) (e : Entry) → AreWithin es → IsWithin e → AreWithin (es ++ e ∷ [])
+pub within_end : (es : List Entry) (e : Entry) → AreWithin es → IsWithin e → AreWithin (es ++ e ∷ [])
 within_end [] e h k = (k, tt)
 within_end (d ∷ es) e h k = (h.0, within_end es e h.1 k)
 
-lines_end : (es : List Entry) (e : Entry) (rest : List ℕ) → lines (es ++ e ∷ []) ++ rest ≡ lines es ++ (entry_text e ++ rest)
+pub lines_end : (es : List Entry) (e : Entry) (rest : List ℕ) → lines (es ++ e ∷ []) ++ rest ≡ lines es ++ (entry_text e ++ rest)
 lines_end [] e rest = ap (λ t. t ++ rest) (append-nil (entry_text e))
 lines_end (d ∷ es) e rest =
     append_assoc (entry_text d) (lines (es ++ e ∷ [])) rest ∙ ap (λ t. entry_text d ++ t) (lines_end es e rest) ∙ sym (append_assoc (entry_text d) (lines es) (entry_text e ++ rest))

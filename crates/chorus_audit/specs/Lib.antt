@@ -4,3 +4,4 @@ pub mod Tests
 pub mod Stops
 pub mod Reads
 pub mod Output
+pub mod Lines

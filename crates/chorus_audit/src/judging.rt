@@ -121,7 +121,7 @@ fn judged(alloc: Global, layout: Layout, text: &[u8]) -> Result<Audit, AllocErro
 
 /// The number of entries that the first line of an audited text tells, and the text behind that line. None exactly where the
 /// first line tells none.
-fn told(text: &[u8]) -> Option<(u32, &[u8])>
+pub(crate) fn told(text: &[u8]) -> Option<(u32, &[u8])>
     ensures { MatchOption result
         ((n : ℕ) (rest : List ℕ) → n < 2 ^ 32 → text.now ≢ head n ++ rest)
         (λ x. text.now ≡ head x.0 ++ x.1.now) }
@@ -163,7 +163,11 @@ fn take_entry<'a>(
 }
 
 /// How many lines the text shares with the summary of the entries before it differs. None exactly where it is that summary.
-fn summary_fault(alloc: Global, entries: &[Entry], text: &[u8]) -> Result<Option<u32>, AllocError>
+pub(crate) fn summary_fault(
+    alloc: Global,
+    entries: &[Entry],
+    text: &[u8],
+) -> Result<Option<u32>, AllocError>
     requires { length text.now ≤ AUDIT_LIMIT }
     ensures { IfOk result (λ fault. MatchOption fault
         (text.now ≡ summary_text entries.now)

@@ -11,7 +11,7 @@
 
 mod fault;
 mod group;
-mod port;
+pub mod port;
 mod rule;
 mod world;
 

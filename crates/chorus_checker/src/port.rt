@@ -9,14 +9,14 @@ use chorus_entry::MsgId;
 use chorus_world::Spot;
 
 /// Whether the port is made.
-pub(crate) fn is_made(port: Option<&PortState>) -> bool
+pub fn is_made(port: Option<&PortState>) -> bool
     ensures { result ≡ is_made (option_copied port.entry) }
 {
     port.is_some()
 }
 
 /// Whether the port is held at the place.
-pub(crate) fn is_held_at(port: Option<&PortState>, place: u16) -> bool
+pub fn is_held_at(port: Option<&PortState>, place: u16) -> bool
     ensures { result ≡ is_held_at place (option_copied port.entry) }
 {
     match port {
@@ -26,7 +26,7 @@ pub(crate) fn is_held_at(port: Option<&PortState>, place: u16) -> bool
 }
 
 /// Whether the port was deleted at the place.
-pub(crate) fn is_ended_at(port: Option<&PortState>, place: u16) -> bool
+pub fn is_ended_at(port: Option<&PortState>, place: u16) -> bool
     ensures { result ≡ is_ended_at place (option_copied port.entry) }
 {
     match port {
@@ -36,7 +36,7 @@ pub(crate) fn is_ended_at(port: Option<&PortState>, place: u16) -> bool
 }
 
 /// Whether the port is on its way to the place by its last hop, and this is that hop.
-pub(crate) fn is_coming(port: Option<&PortState>, place: u16, hop: u64) -> bool
+pub fn is_coming(port: Option<&PortState>, place: u16, hop: u64) -> bool
     ensures { result ≡ is_coming place hop (option_copied port.entry) }
 {
     match port {
@@ -50,7 +50,7 @@ pub(crate) fn is_coming(port: Option<&PortState>, place: u16, hop: u64) -> bool
 }
 
 /// Whether this is the number of the port's next hop.
-pub(crate) fn is_next_hop(port: Option<&PortState>, hop: u64) -> bool
+pub fn is_next_hop(port: Option<&PortState>, hop: u64) -> bool
     ensures { result ≡ is_next_hop hop (option_copied port.entry) }
 {
     match port {
@@ -67,7 +67,7 @@ fn waiting(fate: &PortState) -> usize
 }
 
 /// Whether the port has room, and accepts its next message at this position.
-pub(crate) fn has_room(port: Option<&PortState>, pos: u64) -> bool
+pub fn has_room(port: Option<&PortState>, pos: u64) -> bool
     ensures { result ≡ has_room pos (option_copied port.entry) }
 {
     match port {
@@ -79,7 +79,7 @@ pub(crate) fn has_room(port: Option<&PortState>, pos: u64) -> bool
 }
 
 /// Whether so many messages wait in the port, and it has no room for more.
-pub(crate) fn is_full(port: Option<&PortState>, len: u8) -> bool
+pub fn is_full(port: Option<&PortState>, len: u8) -> bool
     ensures { result ≡ is_full len (option_copied port.entry) }
 {
     match port {
@@ -89,7 +89,7 @@ pub(crate) fn is_full(port: Option<&PortState>, len: u8) -> bool
 }
 
 /// Whether the message, at this position, is the first that waits in the port.
-pub(crate) fn is_first_waiting(port: Option<&PortState>, pos: u64, id: MsgId) -> bool
+pub fn is_first_waiting(port: Option<&PortState>, pos: u64, id: MsgId) -> bool
     ensures { result ≡ is_first_waiting pos id (option_copied port.entry) }
 {
     match port {
@@ -105,7 +105,7 @@ pub(crate) fn is_first_waiting(port: Option<&PortState>, pos: u64, id: MsgId) ->
 }
 
 /// Whether nothing waits in the port.
-pub(crate) fn is_empty(port: Option<&PortState>) -> bool
+pub fn is_empty(port: Option<&PortState>) -> bool
     ensures { result ≡ is_empty (option_copied port.entry) }
 {
     match port {
@@ -115,7 +115,7 @@ pub(crate) fn is_empty(port: Option<&PortState>) -> bool
 }
 
 /// Whether these messages wait in the port, in this order.
-pub(crate) fn are_waiting(port: Option<&PortState>, ids: &[MsgId]) -> bool
+pub fn are_waiting(port: Option<&PortState>, ids: &[MsgId]) -> bool
     ensures { result ≡ are_waiting ids.now (option_copied port.entry) }
 {
     match port {

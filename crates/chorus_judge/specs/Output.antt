@@ -13,7 +13,11 @@ use Rattle.judge_rules.specs.declared.blame.Blame.{Blame}
 use Rattle.law_judge.specs.Open.{all_open}
 use Rattle.chorus_judge.specs.Blaming.{BlamesBy}
 use Rattle.chorus_judge.specs.declared.judgement.Judgement.{Judgement}
+use Rattle.chorus_judge.specs.declared.asked.Asked.{Asked}
+use Rattle.chorus_judge.specs.declared.asked.Measure.{Measure}
+use Rattle.chorus_judge.specs.declared.asked.Measure.TheVariants.{Rules, Promises}
 use Rattle.chorus_judge.specs.Judgements.{judgement_of}
+use Rattle.chorus_judge.specs.Promising.{IsPromised}
 use Rattle.chorus_judge.specs.Texts.{judged_text}
 
 -- what is read of a text for a layout, what it is judged to be by that, and the text that says it
@@ -26,13 +30,18 @@ pub record IsJudgedFor (l : Layout) (text : List ℕ) (judgement : Judgement) (t
   pub blamed : BlamesBy l text audit entries blame
   pub is : told ≡ judged_text l audit blame (reverse entries)
 
+-- by the rules of this system, or by the promises of any
+abbrev pub IsJudgedBy : Measure → Layout → List ℕ → Judgement → List ℕ → Type 0
+IsJudgedBy Rules l text judgement told = IsJudgedFor l text judgement told
+IsJudgedBy Promises l text judgement told = IsPromised l text judgement told
+
 -- it is judged with the plain head, for the layout that is asked for, else for the one that its own head names, if it
 -- does
-pub record IsJudged (asked : Option Layout) (text : List ℕ) (judgement : Judgement) (told : List ℕ) : Type 0 where
+pub record IsJudged (asked : Asked) (text : List ℕ) (judgement : Judgement) (told : List ℕ) : Type 0 where
   pub named : Option Layout
   pub plain : List ℕ
   pub is_plain : IsPlain text named plain
-  pub judged : IsJudgedFor (layout_for asked named) plain judgement told
+  pub judged : IsJudgedBy asked.measure (layout_for asked.layout named) plain judgement told
 
 -- where a journal was judged, all was done
 abbrev pub status_of : Result Judgement Status → Status
@@ -41,7 +50,7 @@ status_of (Err status) = status
 
 -- the sink took the text of the judgement on what the source had, a prefix of it at WriteFault, and nothing at any other
 -- status
-abbrev pub Judges : Option Layout → Result Judgement Status → Option (List ℕ) → Option (List ℕ) → Option (List ℕ)
+abbrev pub Judges : Asked → Result Judgement Status → Option (List ℕ) → Option (List ℕ) → Option (List ℕ)
     → Type 0
 Judges asked (Ok judgement) input old new =
     (told : List ℕ) × IfSome input (λ text. IsJudged asked text judgement told) × Appends old new told

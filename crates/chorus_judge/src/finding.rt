@@ -1,21 +1,20 @@
 //! What is open, found.
 
 ghost use Rattle.std.specs.Prelude.{◌≡◌, ◌≤◌, ◌+◌, ◌++◌, ◌∷◌, [], length, IfOk, OnOk};
-ghost use Rattle.std.specs.Option.{option_copied};
 ghost use Rattle.chorus_ui.specs.declared.limits.TheConstants.{MEMBERS_LIMIT};
 ghost use Rattle.chorus_ui.specs.declared.ui.Ui.{Ui};
 ghost use Rattle.chorus_world.specs.Places.{copies};
-ghost use Rattle.chorus_world.specs.Ports.{is_coming};
-ghost use Rattle.law_judge.specs.Open.{all_open, at_line, awaited};
+ghost use Rattle.law_judge.specs.Open.{all_open, at_line};
 ghost use Rattle.chorus_judge.specs.Findings.{asked_away, copies_at, found_at, message_at};
 
-use checker_ledger::{Ledger, PortState};
+use checker_ledger::Ledger;
 use checker_rows::posting::Posting;
 use checker_rows::sending::copy_of;
+use chorus_checker::port::is_coming;
 use chorus_entry::{Act, Entry, MsgId};
 use chorus_ui::{Layout, Ui};
-use chorus_world::{Progress, Spot};
-use law_judge::{Awaited, Open, OpenAt};
+use judge_promises::awaited;
+use law_judge::{Open, OpenAt};
 use std::alloc::{AllocError, Global};
 
 /// What is open at the end of the ledger's entries, for the layout, with the lines of a printed journal that it began with: from
@@ -117,19 +116,6 @@ fn push_copies(
     push_copies(layout, ledger, line, post, before + 1, more, out)
 }
 
-/// What is still to come of a message in a judged journal, by how far it is; and whether the place of its post is to hear of it.
-fn awaited(away: bool, progress: Progress) -> Option<Awaited>
-    ensures { result ≡ awaited away progress }
-{
-    match progress {
-        Progress::Idle | Progress::Tried { .. } => Some(Awaited::Verdict),
-        Progress::Asked { .. } => Some(Awaited::Choice),
-        Progress::Decided { .. } => Some(Awaited::Told),
-        Progress::Settled { .. } if away => Some(Awaited::Heard),
-        Progress::Settled { .. } | Progress::Reported => None,
-    }
-}
-
 /// Whether it was posted to a group of another place of the judged journal, which tells the place of the post what becomes of it.
 fn is_asked_away(layout: Layout, post: Option<Posting>) -> bool
     ensures { result ≡ asked_away layout post }
@@ -140,20 +126,6 @@ fn is_asked_away(layout: Layout, post: Option<Posting>) -> bool
     match post.dest.group() {
         Some(group) => {
             layout.has_site(group.site()) && layout.first_place(group.site()) != post.place
-        }
-        None => false,
-    }
-}
-
-/// Whether the port is on its way to the place by its last hop, and this is that hop, at the end of a judged journal.
-fn is_coming(port: Option<&PortState>, place: u16, hop: u64) -> bool
-    ensures { result ≡ is_coming place hop (option_copied port.entry) }
-{
-    match port {
-        Some(fate) => {
-            matches!(fate.spot(), Spot::Moving(_))
-                && fate.last_place() == place
-                && hop == fate.path().len().saturating_sub(1) as u64
         }
         None => false,
     }

@@ -4,11 +4,13 @@ ghost use Rattle.std.specs.Prelude.{◌≡◌, ◌≢◌, ◌≤◌, ◌++◌, �
 ghost use Rattle.chorus_io.specs.Count.{Rose};
 ghost use Rattle.chorus_audit.specs.declared.limits.TheConstants.{AUDIT_LIMIT};
 ghost use Rattle.chorus_audit.specs.Output.{ReadsBy};
-ghost use Rattle.chorus_judge.specs.Output.{IsJudged, IsJudgedFor, Judges, status_of};
+ghost use Rattle.chorus_judge.specs.Output.{IsJudged, IsJudgedBy, IsJudgedFor, Judges, status_of};
 
+use crate::asked::{Asked, Measure};
 use crate::blaming::blame_in;
 use crate::finding::open_entries;
 use crate::judgement::{Judgement, judgement_of};
+use crate::promising::promised_for;
 use crate::texts::push_judged;
 use chorus_audit::{AUDIT_LIMIT, read_for};
 use chorus_input::read_input;
@@ -19,12 +21,12 @@ use judge_heads::{layout_for, make_plain};
 use std::alloc::{AllocError, Global};
 
 /// Reads the source to its end, judges the journal that it gave, and writes what was found: whether it is lawful, and a run, what is
-/// open at the end of its entries, or of those in front of the line that is wrong, and who sat where. It is judged for the layout that
-/// is asked for; where none is, for the one that its head names, or 16 sites of one place each. A text of more than [`AUDIT_LIMIT`]
-/// bytes is [`Status::TOO_LONG`]; no error is `Done`.
+/// open at the end of its entries, or of those in front of the line that is wrong, and who sat where; or, by promises, whether it keeps
+/// them, and what is open by them. It is judged for the layout that is asked for; where none is, for the one that its head names, or 16
+/// sites of one place each. A text of more than [`AUDIT_LIMIT`] bytes is [`Status::TOO_LONG`]; no error is `Done`.
 pub fn judge<S: Source, K: Sink>(
     alloc: Global,
-    asked: Option<Layout>,
+    asked: Asked,
     source: &mut S,
     sink: &mut K,
 ) -> Result<Judgement, Status>
@@ -60,17 +62,38 @@ pub fn judge<S: Source, K: Sink>(
 /// What the text is judged to be, and the text that says it. The text is made plain.
 fn judged(
     alloc: Global,
-    asked: Option<Layout>,
+    asked: Asked,
     text: &mut Vec<u8>,
 ) -> Result<(Judgement, Vec<u8>), AllocError>
     requires { length text.old.items ≤ AUDIT_LIMIT }
     ensures { IfOk result (λ found. IsJudged asked text.old.items found.0 found.1.items) }
 {
     let (named, start) = make_plain(text);
-    judged_for(alloc, layout_for(asked, named), &text[start..])
+    judged_by(
+        alloc,
+        asked.measure,
+        layout_for(asked.layout, named),
+        &text[start..],
+    )
 }
 
-/// What the plain text is judged to be for the layout, and the text that says it.
+/// What the plain text is judged to be for the layout, by this measure, and the text that says it.
+fn judged_by(
+    alloc: Global,
+    measure: Measure,
+    layout: Layout,
+    text: &[u8],
+) -> Result<(Judgement, Vec<u8>), AllocError>
+    requires { length text.now ≤ AUDIT_LIMIT }
+    ensures { IfOk result (λ found. IsJudgedBy measure layout text.now found.0 found.1.items) }
+{
+    match measure {
+        Measure::Rules => judged_for(alloc, layout, text),
+        Measure::Promises => promised_for(alloc, layout, text),
+    }
+}
+
+/// What the plain text is judged to be for the layout by the rules, and the text that says it.
 fn judged_for(
     alloc: Global,
     layout: Layout,

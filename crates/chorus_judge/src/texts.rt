@@ -73,7 +73,7 @@ fn push_wrong(audit: Audit, blame: &Option<Blame>, out: &mut Vec<u8>) -> Result<
 }
 
 /// Appends what is blamed for a wrong line of a judged journal.
-fn push_blame(blame: &Blame, out: &mut Vec<u8>) -> Result<(), AllocError>
+pub(crate) fn push_blame(blame: &Blame, out: &mut Vec<u8>) -> Result<(), AllocError>
     ensures { OnOk result (out.new.items ≡ out.old.items ++ blame_text blame.now) }
 {
     push_blamed(blame, out)?;
@@ -174,7 +174,7 @@ fn push_seat(sat: &SeatIn, out: &mut Vec<u8>) -> Result<(), AllocError>
 }
 
 /// Appends how much is open in a judged journal, and the lines of what is, at most so many.
-fn push_opens(opens: &[OpenAt], out: &mut Vec<u8>) -> Result<(), AllocError>
+pub(crate) fn push_opens(opens: &[OpenAt], out: &mut Vec<u8>) -> Result<(), AllocError>
     ensures { OnOk result (out.new.items ≡ out.old.items ++ open_text opens.now) }
 {
     out.extend_from_slice(b"open ")?;

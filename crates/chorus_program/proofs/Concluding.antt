@@ -127,6 +127,8 @@ module _ {S K : Type 0} (c : Conclusion) (left : S → Option (List ℕ)) (fault
   pub concluded-is-done : (n : Nucleus) (asked : Words) → Concludes n asked c left faults reliable from rest held failures old new → Does n asked c.finished left faults reliable from rest held failures old new
   concluded-is-done n words.Judge h = (h.given, h.ends)
   concluded-is-done n (words.JudgeFor sites turns) h = (h.given, h.ends)
+  concluded-is-done n words.Promises h = (h.given, h.ends)
+  concluded-is-done n (words.PromisesFor sites turns) h = (h.given, h.ends)
   concluded-is-done n words.Check h = (h.given, h.ends)
   concluded-is-done n (words.CheckMost most) h = (h.given, h.ends)
   concluded-is-done n (words.CheckDrawn count first) h = (h.given, h.ends)

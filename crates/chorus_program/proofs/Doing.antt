@@ -23,6 +23,8 @@ use Rattle.chorus_replay.specs.Ordered.{Replays}
 use Rattle.chorus_run.specs.Ends.{EndsAsRun}
 use Rattle.chorus_run.specs.Threads.{HasAllPerformed, HasWornOf, IsOfNucleus}
 use Rattle.chorus_audit.specs.Output.{Prints, ReadsBy}
+use Rattle.chorus_judge.specs.declared.asked.Asked.{Asked}
+use Rattle.chorus_judge.specs.declared.asked.Measure.TheVariants.{Promises, Rules}
 use Rattle.chorus_judge.specs.declared.judgement.Judgement.{Judgement}
 use Rattle.chorus_check.specs.declared.checked.Checked.{Checked}
 use Rattle.chorus_run.specs.DrawnCrew.Ends.{EndsAsCrew}
@@ -38,7 +40,7 @@ use Rattle.chorus_words.specs.declared.words.Words.TheVariants as words
 use Rattle.chorus_program.specs.declared.running.TheConstants.{PROGRAM_SITES}
 use Rattle.chorus_check.specs.declared.schedules.Schedules.{Schedules}
 use Rattle.chorus_check.specs.declared.schedules.Schedules.TheVariants.{All, Drawn}
-use Rattle.chorus_program.specs.Running.{layout_asked, places_each, replay_layout, Does, DoesOnOneThread, EndsAsAudit, EndsAsChecked, EndsAsExplored, EndsAsJudge, EndsAsLossy, EndsAsPicture, EndsUnreadAsLoad, EndsWithCause, Suits}
+use Rattle.chorus_program.specs.Running.{asked_by, layout_asked, places_each, replay_layout, Does, DoesOnOneThread, EndsAsAudit, EndsAsChecked, EndsAsExplored, EndsAsJudge, EndsAsLossy, EndsAsPicture, EndsUnreadAsLoad, EndsWithCause, Suits}
 use Rattle.chorus_program.specs.Started.{DoesOnOwn, DoesOnStarted}
 
 -- Causes.
@@ -87,10 +89,10 @@ causes-explored most f left faults reliable from rest held failures old new h = 
 
 -- A judgement.
 
-pub judged-none : (asked : Option Layout) (f : Finished) → f ≡ record { status = Memory; closed = None } → (left old : Option (List ℕ)) → EndsAsJudge asked (Err Memory) f left left old old
+pub judged-none : (asked : Asked) (f : Finished) → f ≡ record { status = Memory; closed = None } → (left old : Option (List ℕ)) → EndsAsJudge asked (Err Memory) f left left old old
 judged-none asked f is left old = record { is = is; reads = ([], (Consumes-nil left, omega arith)); judges = refl }
 
-pub judged-no-usage : (asked : Option Layout) (given : Result Judgement Status) (f : Finished) (left rest old new : Option (List ℕ)) → EndsAsJudge asked given f left rest old new → f.status ≡ Status.Usage → ⊥
+pub judged-no-usage : (asked : Asked) (given : Result Judgement Status) (f : Finished) (left rest old new : Option (List ℕ)) → EndsAsJudge asked given f left rest old new → f.status ≡ Status.Usage → ⊥
 judged-no-usage asked given f left rest old new h is = subst (λ (s : Status). ReadsBy s left rest) (sym (ap (λ (x : Finished). x.status) h.is) ∙ is) h.reads
 
 -- Where there was no memory, nothing was read or written.
@@ -193,8 +195,10 @@ module _ {S K : Type 0} (f : Finished) (is : f ≡ record { status = Memory; clo
   one-thread-none words.Check same = (Err Memory, checked-none (All CHECK_MOST))
   one-thread-none (words.CheckMost most) same = (Err Memory, checked-none (All most))
   one-thread-none (words.CheckDrawn count first) same = (Err Memory, checked-none (Drawn count first))
-  one-thread-none words.Judge same = (Err Memory, judged-none None f is (left from) (held old))
-  one-thread-none (words.JudgeFor sites turns) same = (Err Memory, judged-none (Some (places_each sites turns)) f is (left from) (held old))
+  one-thread-none words.Judge same = (Err Memory, judged-none (asked_by Rules None) f is (left from) (held old))
+  one-thread-none (words.JudgeFor sites turns) same = (Err Memory, judged-none (asked_by Rules (Some (places_each sites turns))) f is (left from) (held old))
+  one-thread-none words.Promises same = (Err Memory, judged-none (asked_by Promises None) f is (left from) (held old))
+  one-thread-none (words.PromisesFor sites turns) same = (Err Memory, judged-none (asked_by Promises (Some (places_each sites turns))) f is (left from) (held old))
   one-thread-none (words.Picture sites turns) same = draws-none (places_each sites turns)
   one-thread-none (words.Lossy first) same = carries-none first
   one-thread-none (words.Crew first commands) same = cc
@@ -213,6 +217,8 @@ module _ {S K : Type 0} (f : Finished) (is : f ≡ record { status = Memory; clo
   does-none n (words.CheckDrawn count first) = one-thread-none (words.CheckDrawn count first) refl
   does-none n words.Judge = one-thread-none words.Judge refl
   does-none n (words.JudgeFor sites turns) = one-thread-none (words.JudgeFor sites turns) refl
+  does-none n words.Promises = one-thread-none words.Promises refl
+  does-none n (words.PromisesFor sites turns) = one-thread-none (words.PromisesFor sites turns) refl
   does-none n (words.Picture sites turns) = one-thread-none (words.Picture sites turns) refl
   does-none n (words.Lossy first) = one-thread-none (words.Lossy first) refl
   does-none n words.Explore = one-thread-none words.Explore refl
@@ -244,8 +250,12 @@ module _ {S K : Type 0} (f : Finished) (left : S → Option (List ℕ)) (faults 
   no-usage-on-one words.Check d is = checked-no-usage (All CHECK_MOST) d.0 d.1 is
   no-usage-on-one (words.CheckMost most) d is = checked-no-usage (All most) d.0 d.1 is
   no-usage-on-one (words.CheckDrawn count first) d is = checked-no-usage (Drawn count first) d.0 d.1 is
-  no-usage-on-one words.Judge d is = judged-no-usage None d.0 f (left from) (left rest) (held old) (held new) d.1 is
-  no-usage-on-one (words.JudgeFor sites turns) d is = judged-no-usage (Some (places_each sites turns)) d.0 f (left from) (left rest) (held old) (held new) d.1 is
+  no-usage-on-one words.Judge d is = judged-no-usage (asked_by Rules None) d.0 f (left from) (left rest) (held old) (held new) d.1 is
+  no-usage-on-one (words.JudgeFor sites turns) d is =
+      judged-no-usage (asked_by Rules (Some (places_each sites turns))) d.0 f (left from) (left rest) (held old) (held new) d.1 is
+  no-usage-on-one words.Promises d is = judged-no-usage (asked_by Promises None) d.0 f (left from) (left rest) (held old) (held new) d.1 is
+  no-usage-on-one (words.PromisesFor sites turns) d is =
+      judged-no-usage (asked_by Promises (Some (places_each sites turns))) d.0 f (left from) (left rest) (held old) (held new) d.1 is
   no-usage-on-one (words.Picture sites turns) d is = subst (λ s. picture.ReadsBy (places_each sites turns) s (left from) (left rest)) is d.reads
   no-usage-on-one (words.Crew first commands) d is = d
   no-usage-on-one words.Explore d is = d.explores.reads.usage is
@@ -264,6 +274,8 @@ module _ {S K : Type 0} (f : Finished) (left : S → Option (List ℕ)) (faults 
   with-any n (words.CheckDrawn count first) d = d
   with-any n words.Judge d = d
   with-any n (words.JudgeFor sites turns) d = d
+  with-any n words.Promises d = d
+  with-any n (words.PromisesFor sites turns) d = d
   with-any n (words.Picture sites turns) d = d
   with-any n (words.Lossy first) d = d
   with-any n (words.Crew first commands) d = absurd d
@@ -282,6 +294,8 @@ module _ {S K : Type 0} (f : Finished) (left : S → Option (List ℕ)) (faults 
   no-usage n (words.CheckDrawn count first) d is = no-usage-on-one (words.CheckDrawn count first) d is
   no-usage n words.Judge d is = no-usage-on-one words.Judge d is
   no-usage n (words.JudgeFor sites turns) d is = no-usage-on-one (words.JudgeFor sites turns) d is
+  no-usage n words.Promises d is = no-usage-on-one words.Promises d is
+  no-usage n (words.PromisesFor sites turns) d is = no-usage-on-one (words.PromisesFor sites turns) d is
   no-usage n (words.Picture sites turns) d is = no-usage-on-one (words.Picture sites turns) d is
   no-usage n (words.Lossy first) d is = no-usage-on-one (words.Lossy first) d is
   no-usage n words.Explore d is = no-usage-on-one words.Explore d is
@@ -311,6 +325,8 @@ suits n (words.CheckMost most) same = tt
 suits n (words.CheckDrawn count first) same = tt
 suits n words.Judge same = tt
 suits n (words.JudgeFor sites turns) same = tt
+suits n words.Promises same = tt
+suits n (words.PromisesFor sites turns) same = tt
 suits n (words.Picture sites turns) same = tt
 suits n (words.Lossy first) same = tt
 suits n words.Explore same = tt

@@ -6,6 +6,8 @@ use Rattle.chorus_ui.specs.declared.layout.Layout.{Layout}
 use Rattle.chorus_show.specs.declared.status.Status.{Status}
 use Rattle.chorus_show.specs.declared.status.Status.TheVariants.{Done}
 use Rattle.chorus_show.specs.Faults.{fault_line, status_number}
+use Rattle.chorus_judge.specs.declared.asked.Asked.{Asked}
+use Rattle.chorus_judge.specs.declared.asked.Measure.TheVariants.{Promises, Rules}
 use Rattle.chorus_judge.specs.declared.judgement.Judgement.{Judgement}
 use Rattle.chorus_judge.specs.Judgements.{judgement_number}
 use Rattle.chorus_check.specs.declared.checked.Checked.{Checked}
@@ -23,14 +25,16 @@ use Rattle.chorus_program.specs.declared.conclusion.Verdict.{Verdict}
 use Rattle.chorus_program.specs.declared.conclusion.Verdict.TheVariants as verdicts
 use Rattle.chorus_program.specs.declared.inquiries.Inquiry.{Inquiry}
 use Rattle.chorus_program.specs.declared.inquiries.Inquiry.TheVariants.{Judge, Check}
-use Rattle.chorus_program.specs.Running.{places_each, Does, EndsAsChecked, EndsAsJudge}
+use Rattle.chorus_program.specs.Running.{asked_by, places_each, Does, EndsAsChecked, EndsAsJudge}
 use Rattle.chorus_program.specs.Started.{DoesOnOwn}
 
 -- what is asked about a text: what a journal is, for a layout or for the one that it names; or what is so of a scenario's claims. All other words ask
 -- nothing
 abbrev pub inquiry_in : Words → Option Inquiry
-inquiry_in words.Judge = Some (Judge None)
-inquiry_in (words.JudgeFor sites turns) = Some (Judge (Some (places_each sites turns)))
+inquiry_in words.Judge = Some (Judge (asked_by Rules None))
+inquiry_in (words.JudgeFor sites turns) = Some (Judge (asked_by Rules (Some (places_each sites turns))))
+inquiry_in words.Promises = Some (Judge (asked_by Promises None))
+inquiry_in (words.PromisesFor sites turns) = Some (Judge (asked_by Promises (Some (places_each sites turns))))
 inquiry_in words.Check = Some (Check (All CHECK_MOST))
 inquiry_in (words.CheckMost most) = Some (Check (All most))
 inquiry_in (words.CheckDrawn count first) = Some (Check (Drawn count first))
@@ -51,7 +55,7 @@ checked_in (Ok checked) = Some (verdicts.Checked checked)
 checked_in (Err status) = None
 
 -- this was found of the journal that was read, and it is what the journal was judged to be
-pub record ConcludesAsJudge (asked : Option Layout) (conclusion : Conclusion)
+pub record ConcludesAsJudge (asked : Asked) (conclusion : Conclusion)
     (left rest old new : Option (List ℕ)) : Type 0 where
   pub given : Result Judgement Status
   pub verdict : conclusion.verdict ≡ judged_in given

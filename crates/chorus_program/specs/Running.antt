@@ -6,6 +6,9 @@ use Rattle.chorus_io.specs.Count.{Rose}
 use Rattle.chorus_ui.specs.declared.layout.Layout.{Layout}
 use Rattle.chorus_ui.specs.declared.limits.TheConstants.{CLOCK_LIMIT}
 use Rattle.chorus_audit.specs.Output.{Prints, ReadsBy}
+use Rattle.chorus_judge.specs.declared.asked.Asked.{Asked}
+use Rattle.chorus_judge.specs.declared.asked.Measure.{Measure}
+use Rattle.chorus_judge.specs.declared.asked.Measure.TheVariants.{Promises, Rules}
 use Rattle.chorus_judge.specs.declared.judgement.Judgement.{Judgement}
 use Rattle.chorus_judge.specs.Output.{Judges, status_of}
 use Rattle.chorus_check.specs.declared.checked.Checked.{Checked}
@@ -71,8 +74,12 @@ pub record EndsAsAudit (l : Layout) (finished : Finished) (left rest old new : O
   pub reads : ReadsBy finished.status left rest
   pub prints : Prints l finished.status left old new
 
+-- a journal is judged by this measure, and for this layout, if one is asked for
+abbrev pub asked_by : Measure → Option Layout → Asked
+asked_by measure layout = record { measure = measure; layout = layout }
+
 -- nothing was closed, this was found of the journal that was read, and the text that says it was written
-pub record EndsAsJudge (asked : Option Layout) (given : Result Judgement Status) (finished : Finished)
+pub record EndsAsJudge (asked : Asked) (given : Result Judgement Status) (finished : Finished)
     (left rest old new : Option (List ℕ)) : Type 0 where
   pub is : finished ≡ record { status = status_of given; closed = None }
   pub reads : ReadsBy (status_of given) left rest
@@ -133,10 +140,18 @@ DoesOnOneThread (words.Audit sites turns) finished left faults reliable from res
     EndsAsAudit (places_each sites turns) finished (left from) (left rest) (held old) (held new)
 DoesOnOneThread words.Judge finished left faults reliable from rest held failures old new =
     (given : Result Judgement Status)
-    × EndsAsJudge None given finished (left from) (left rest) (held old) (held new)
+    × EndsAsJudge (asked_by Rules None) given finished (left from) (left rest) (held old) (held new)
 DoesOnOneThread (words.JudgeFor sites turns) finished left faults reliable from rest held failures old new =
     (given : Result Judgement Status)
-    × EndsAsJudge (Some (places_each sites turns)) given finished (left from) (left rest) (held old) (held new)
+    × EndsAsJudge (asked_by Rules (Some (places_each sites turns))) given finished (left from) (left rest)
+    (held old) (held new)
+DoesOnOneThread words.Promises finished left faults reliable from rest held failures old new =
+    (given : Result Judgement Status)
+    × EndsAsJudge (asked_by Promises None) given finished (left from) (left rest) (held old) (held new)
+DoesOnOneThread (words.PromisesFor sites turns) finished left faults reliable from rest held failures old new =
+    (given : Result Judgement Status)
+    × EndsAsJudge (asked_by Promises (Some (places_each sites turns))) given finished (left from) (left rest)
+    (held old) (held new)
 DoesOnOneThread (words.Picture sites turns) finished left faults reliable from rest held failures old new =
     EndsAsPicture (places_each sites turns) finished (left from) (left rest) (held old) (held new)
 DoesOnOneThread (words.Lossy first) finished left faults reliable from rest held failures old new =

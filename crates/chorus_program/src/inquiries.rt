@@ -1,18 +1,20 @@
 //! What the words do that ask what is to be found of a text.
 
 ghost use Rattle.std.specs.Prelude.{◌≡◌, None, Some};
+ghost use Rattle.chorus_ui.specs.Layout.{IsLayout};
 ghost use Rattle.chorus_words.specs.Words.{IsWithin};
 ghost use Rattle.chorus_judge.specs.Output as judging;
+ghost use Rattle.chorus_program.specs.declared.inquiries.Inquiry.TheVariants as Inquiry;
 ghost use Rattle.chorus_check.specs.Ends as checking;
 ghost use Rattle.chorus_program.specs.Concluding.{checked_in, inquiry_in, judged_in, Answers, ConcludesAsCheck, ConcludesAsJudge};
-ghost use Rattle.chorus_program.specs.Running.{EndsWithCause};
+ghost use Rattle.chorus_program.specs.Running.{asked_by, places_each, EndsWithCause};
 
 use crate::conclusion::{Conclusion, Verdict, end_as};
 use crate::one_thread::closed_nothing;
 use crate::running::PROGRAM_SITES;
 use chorus_check::{Checked, Schedules, check};
 use chorus_io::{Sink, Source};
-use chorus_judge::{Judgement, judge};
+use chorus_judge::{Asked, Judgement, Measure, judge};
 use chorus_show::Status;
 use chorus_ui::Layout;
 use chorus_words::{CHECK_MOST, Words};
@@ -21,8 +23,8 @@ use std::alloc::Global;
 /// What is asked about a text.
 #[derive(Clone, Copy)]
 pub(crate) enum Inquiry {
-    /// What a journal is, for this layout, or where none is asked for, for the one that it names.
-    Judge { asked: Option<Layout> },
+    /// What a journal is, by this measure, and for this layout, or where none is asked for, for the one that it names.
+    Judge { asked: Asked },
     /// What is so of the claims of a scenario, by these schedules.
     Check { schedules: Schedules },
 }
@@ -33,10 +35,10 @@ pub(crate) fn inquiry_in(asked: Words) -> Option<Inquiry>
     ensures { result ≡ inquiry_in asked }
 {
     match asked {
-        Words::Judge => Some(Inquiry::Judge { asked: None }),
-        Words::JudgeFor { sites, turns } => Some(Inquiry::Judge {
-            asked: Some(Layout::new(sites, turns).unwrap()),
-        }),
+        Words::Judge => Some(judge_by(Measure::Rules, None)),
+        Words::JudgeFor { sites, turns } => Some(judge_on(Measure::Rules, sites, turns)),
+        Words::Promises => Some(judge_by(Measure::Promises, None)),
+        Words::PromisesFor { sites, turns } => Some(judge_on(Measure::Promises, sites, turns)),
         Words::Check => Some(Inquiry::Check {
             schedules: Schedules::All { most: CHECK_MOST },
         }),
@@ -48,6 +50,23 @@ pub(crate) fn inquiry_in(asked: Words) -> Option<Inquiry>
         }),
         _ => None,
     }
+}
+
+/// The question what a journal is, by this measure, and for this layout, if one is asked for.
+fn judge_by(measure: Measure, layout: Option<Layout>) -> Inquiry
+    ensures { result ≡ Inquiry.Judge (asked_by measure layout) }
+{
+    Inquiry::Judge {
+        asked: Asked { measure, layout },
+    }
+}
+
+/// The question what a journal is, by this measure, on so many sites with so many places each: a layout that exists.
+fn judge_on(measure: Measure, sites: u16, turns: u16) -> Inquiry
+    requires { IsLayout (places_each sites turns) }
+    ensures { result ≡ Inquiry.Judge (asked_by measure (Some (places_each sites turns))) }
+{
+    judge_by(measure, Some(Layout::new(sites, turns).unwrap()))
 }
 
 /// Answers what the program's words ask about the text that the source gives.
@@ -68,10 +87,10 @@ pub(crate) fn answer<S: Source, K: Sink>(
     }
 }
 
-/// Does the program's word `judge`: judges what the source gives, for this layout, or for the one that it names.
+/// Does the program's words `judge` and `promises`: judges what the source gives, as it is asked.
 fn judge_for<S: Source, K: Sink>(
     alloc: Global,
-    asked: Option<Layout>,
+    asked: Asked,
     source: &mut S,
     sink: &mut K,
 ) -> Conclusion

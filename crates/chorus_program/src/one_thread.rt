@@ -56,6 +56,7 @@ pub(crate) fn does_on_one_thread<S: Source, K: Sink>(
         Words::ExploreMost { most } => start_explore(alloc, most, source, sink),
         Words::Run | Words::RunOn { .. } | Words::Crew { .. } => unreachable!(),
         Words::Judge | Words::JudgeFor { .. } => unreachable!(),
+        Words::Promises | Words::PromisesFor { .. } => unreachable!(),
         Words::Check | Words::CheckMost { .. } | Words::CheckDrawn { .. } => unreachable!(),
     }
 }

@@ -27,7 +27,8 @@ pub const PROGRAM_SITES: u16 = 16;
 /// Does what the words say: `replay` replays the scenario that the source gives, and `load FIRST COMMANDS` performs the
 /// commands that are drawn, both on sites that are started for it; `run` performs the scenario on the running threads of the nucleus,
 /// and so does `run TURNS` where its sites have so many places; `audit SITES TURNS` audits the printed journal that the source gives,
-/// `judge SITES TURNS` judges it, `judge` alone does for the sites that its head names, or those of a replay, and `picture SITES TURNS` draws it;
+/// `judge SITES TURNS` judges it, `judge` alone does for the sites that its head names, or those of a replay, `promises SITES TURNS` and
+/// `promises` judge it so by promises, and `picture SITES TURNS` draws it;
 /// `lossy FIRST` carries what the source gives over a line that loses; `crew FIRST COMMANDS` sends what the draws give to ports of the
 /// nucleus, where it has at least 8 sites, and prints what a crew handled there; `explore` tells what may come of the scenario that the
 /// source gives, by any schedule, with at most [`EXPLORE_MOST`](chorus_words::EXPLORE_MOST) events carried out, and `explore MOST` with at

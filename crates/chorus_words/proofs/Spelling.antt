@@ -7,7 +7,7 @@ use Rattle.std.specs.Option.{IfSome, IsNone, is_some, unwrap_or}
 use Rattle.std.proofs.lemmas.Bool.Decides.{nat_tests}
 use Rattle.chorus_ui.specs.Layout.{IsLayout, Shape, is_layout, new_layout}
 use Rattle.chorus_words.specs.declared.words.Words.{Words}
-use Rattle.chorus_words.specs.declared.words.Words.TheVariants.{Replay, Run, RunOn, Load, Audit, Judge, JudgeFor, Picture, Lossy, Crew, Explore, ExploreMost, Check, CheckMost, CheckDrawn}
+use Rattle.chorus_words.specs.declared.words.Words.TheVariants.{Replay, Run, RunOn, Load, Audit, Judge, JudgeFor, Promises, PromisesFor, Picture, Lossy, Crew, Explore, ExploreMost, Check, CheckMost, CheckDrawn}
 use Rattle.chorus_words.specs.Words.{Ask, IsTurns, IsWithin, spelled}
 use Rattle.chorus_words.specs.Cutting.{AskByThree, is_value}
 
@@ -28,6 +28,9 @@ spelled_values (Audit sites turns) w =
     rw (decimal_value sites (omega (arith, w.sites_to_max)), decimal_value turns (omega (arith, w.turns_to_four))) refl
 spelled_values Judge w = refl
 spelled_values (JudgeFor sites turns) w =
+    rw (decimal_value sites (omega (arith, w.sites_to_max)), decimal_value turns (omega (arith, w.turns_to_four))) refl
+spelled_values Promises w = refl
+spelled_values (PromisesFor sites turns) w =
     rw (decimal_value sites (omega (arith, w.sites_to_max)), decimal_value turns (omega (arith, w.turns_to_four))) refl
 spelled_values (Picture sites turns) w =
     rw (decimal_value sites (omega (arith, w.sites_to_max)), decimal_value turns (omega (arith, w.turns_to_four))) refl
@@ -69,6 +72,8 @@ few_words (Load first commands) = omega arith
 few_words (Audit sites turns) = omega arith
 few_words Judge = omega arith
 few_words (JudgeFor sites turns) = omega arith
+few_words Promises = omega arith
+few_words (PromisesFor sites turns) = omega arith
 few_words (Picture sites turns) = omega arith
 few_words (Lossy first) = omega arith
 few_words (Crew first commands) = omega arith
@@ -101,6 +106,9 @@ other_word word four e = true≢false (sym four ∙ ap (λ (w : List ℕ). lengt
 no_picture : Some (codes "audit") ≡ Some (codes "picture") → ⊥
 no_picture e = true≢false (ap (λ (w : List ℕ). length w == 5) (the_word (codes "audit") (codes "picture") e))
 
+no_promises : Some (codes "audit") ≡ Some (codes "promises") → ⊥
+no_promises e = true≢false (ap (λ (w : List ℕ). length w == 5) (the_word (codes "audit") (codes "promises") e))
+
 no_judge : Some (codes "audit") ≡ Some (codes "judge") → ⊥
 no_judge e = true≢false (ap (λ (w : List ℕ). get_or w 0 0 == 97) (the_word (codes "audit") (codes "judge") e))
 
@@ -125,6 +133,10 @@ one_spelling (Audit sites turns) (Audit s t) w v e = ap₂ Audit
     (same_number turns t (omega (arith, w.turns_to_four)) (omega (arith, v.turns_to_four)) (ap (λ l. slice_get l 2) e))
 one_spelling Judge Judge w v e = refl
 one_spelling (JudgeFor sites turns) (JudgeFor s t) w v e = ap₂ JudgeFor
+    (same_number sites s (omega (arith, w.sites_to_max)) (omega (arith, v.sites_to_max)) (ap (λ l. slice_get l 1) e))
+    (same_number turns t (omega (arith, w.turns_to_four)) (omega (arith, v.turns_to_four)) (ap (λ l. slice_get l 2) e))
+one_spelling Promises Promises w v e = refl
+one_spelling (PromisesFor sites turns) (PromisesFor s t) w v e = ap₂ PromisesFor
     (same_number sites s (omega (arith, w.sites_to_max)) (omega (arith, v.sites_to_max)) (ap (λ l. slice_get l 1) e))
     (same_number turns t (omega (arith, w.turns_to_four)) (omega (arith, v.turns_to_four)) (ap (λ l. slice_get l 2) e))
 one_spelling (Picture sites turns) (Picture s t) w v e = ap₂ Picture
@@ -196,6 +208,8 @@ no_audit_of sites turns none (RunOn t) by = no_word turns (sym by.2)
 no_audit_of sites turns none (Load first commands) by = other_word (codes "load") refl (sym by.0)
 no_audit_of sites turns none Judge by = no_word sites (sym by.1)
 no_audit_of sites turns none (JudgeFor s t) by = no_judge by.0
+no_audit_of sites turns none Promises by = no_word sites (sym by.1)
+no_audit_of sites turns none (PromisesFor s t) by = no_promises by.0
 no_audit_of sites turns none (Picture s t) by = no_picture by.0
 no_audit_of sites turns none (Lossy first) by = no_word turns (sym by.2)
 no_audit_of sites turns none (Crew first commands) by = other_word (codes "crew") refl (sym by.0)
@@ -231,6 +245,21 @@ pub no_judging : (sites turns : List ℕ) (what first second : Option (List ℕ)
     → (asked : Words) → AskByThree what first second asked → ⊥
 no_judging sites turns what first second e f g none asked by =
     no_judge_of sites turns none asked (sym e ∙ by.0, sym f ∙ by.1, sym g ∙ by.2, by.3)
+
+-- Of a judgement by promises too.
+
+no_promises_of : (sites turns : List ℕ) → ((l : Shape) → IsLayout l → sites ≡ decimal l.sites → turns ≡ decimal l.turns → ⊥)
+    → (asked : Words) → AskByThree (Some (codes "promises")) (Some sites) (Some turns) asked → ⊥
+no_promises_of sites turns none (PromisesFor s t) by = none (record { sites = s; turns = t }) by.3 (the_word sites (decimal s) by.1) (the_word turns (decimal t) by.2)
+no_promises_of sites turns none Promises by = no_word sites (sym by.1)
+no_promises_of sites turns none asked by =
+    absurd (let word : codes "promises" ≡ unwrap_or (slice_get (spelled asked) 0) [] = the_word (codes "promises") (unwrap_or (slice_get (spelled asked) 0) []) by.0 in let long = ap (λ (w : List ℕ). length w) word in omega (arith, long))
+
+pub no_promising : (sites turns : List ℕ) (what first second : Option (List ℕ)) → what ≡ Some (codes "promises") → first ≡ Some sites → second ≡ Some turns
+    → ((l : Shape) → IsLayout l → sites ≡ decimal l.sites → turns ≡ decimal l.turns → ⊥)
+    → (asked : Words) → AskByThree what first second asked → ⊥
+no_promising sites turns what first second e f g none asked by =
+    no_promises_of sites turns none asked (sym e ∙ by.0, sym f ∙ by.1, sym g ∙ by.2, by.3)
 
 -- Of a picture too.
 

@@ -4,7 +4,7 @@ use Rattle.std.specs.Prelude.{ℕ, ◌≡◌, ◌^◌, ◌<◌, ◌≤◌, List,
 use Rattle.chorus_ui.specs.Layout.{IsLayout}
 use Rattle.chorus_words.specs.declared.words.TheConstants.{LOAD_LIMIT}
 use Rattle.chorus_words.specs.declared.words.Words.{Words}
-use Rattle.chorus_words.specs.declared.words.Words.TheVariants.{Replay, Run, RunOn, Load, Audit, Judge, JudgeFor, Picture, Lossy, Crew, Explore, ExploreMost, Check, CheckMost, CheckDrawn}
+use Rattle.chorus_words.specs.declared.words.Words.TheVariants.{Replay, Run, RunOn, Load, Audit, Judge, JudgeFor, Promises, PromisesFor, Picture, Lossy, Crew, Explore, ExploreMost, Check, CheckMost, CheckDrawn}
 
 abbrev pub spelled : Words → List (List ℕ)
 spelled Replay = codes "replay" ∷ []
@@ -14,6 +14,8 @@ spelled (Load first commands) = codes "load" ∷ decimal first ∷ decimal comma
 spelled (Audit sites turns) = codes "audit" ∷ decimal sites ∷ decimal turns ∷ []
 spelled Judge = codes "judge" ∷ []
 spelled (JudgeFor sites turns) = codes "judge" ∷ decimal sites ∷ decimal turns ∷ []
+spelled Promises = codes "promises" ∷ []
+spelled (PromisesFor sites turns) = codes "promises" ∷ decimal sites ∷ decimal turns ∷ []
 spelled (Picture sites turns) = codes "picture" ∷ decimal sites ∷ decimal turns ∷ []
 spelled (Lossy first) = codes "lossy" ∷ decimal first ∷ []
 spelled (Crew first commands) = codes "crew" ∷ decimal first ∷ decimal commands ∷ []
@@ -36,6 +38,8 @@ IsWithin (Load first commands) = (first < 2 ^ 64) × (commands ≤ LOAD_LIMIT)
 IsWithin (Audit sites turns) = IsLayout (record { sites = sites; turns = turns })
 IsWithin Judge = Unit {0}
 IsWithin (JudgeFor sites turns) = IsLayout (record { sites = sites; turns = turns })
+IsWithin Promises = Unit {0}
+IsWithin (PromisesFor sites turns) = IsLayout (record { sites = sites; turns = turns })
 IsWithin (Picture sites turns) = IsLayout (record { sites = sites; turns = turns })
 IsWithin (Lossy first) = first < 2 ^ 64
 IsWithin (Crew first commands) = (first < 2 ^ 64) × (commands ≤ LOAD_LIMIT)

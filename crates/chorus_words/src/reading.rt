@@ -78,6 +78,14 @@ fn asked_by(what: Option<&str>, first: Option<&str>, second: Option<&str>) -> Op
                 turns: layout.turns(),
             })
         }
+        ("promises", None, None) => Some(Words::Promises),
+        ("promises", Some(sites), Some(turns)) => {
+            let layout = layout_of(sites, turns)?;
+            Some(Words::PromisesFor {
+                sites: layout.sites(),
+                turns: layout.turns(),
+            })
+        }
         ("picture", Some(sites), Some(turns)) => {
             let layout = layout_of(sites, turns)?;
             Some(Words::Picture {

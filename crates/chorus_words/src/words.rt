@@ -26,6 +26,10 @@ pub enum Words {
     Judge,
     /// `judge SITES TURNS`: so it is for a layout as of an audit.
     JudgeFor { sites: u16, turns: u16 },
+    /// `promises`: a printed journal is judged by promises, for the layout of a judgement.
+    Promises,
+    /// `promises SITES TURNS`: so it is for a layout as of an audit.
+    PromisesFor { sites: u16, turns: u16 },
     /// `picture SITES TURNS`: a printed journal is drawn, for a layout as of an audit.
     Picture { sites: u16, turns: u16 },
     /// `lossy FIRST`: the input is carried over a line whose losses are drawn from the first state on.

@@ -1,5 +1,10 @@
 pub mod Terms
 pub mod Conditions
 pub mod Breaches
+pub mod Blames
+pub mod Tables
+pub mod Steps
+pub mod Logs
 pub mod Open
+pub mod Findings
 pub mod Laws

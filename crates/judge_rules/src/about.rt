@@ -298,7 +298,7 @@ fn is_about(id: MsgId, entry: &Entry) -> bool
 }
 
 /// Whether the entry is one of those of which the last is meant.
-fn passes(about: &About, entry: &Entry) -> bool
+pub fn passes(about: &About, entry: &Entry) -> bool
     ensures { result ≡ passes about.now entry.now }
 {
     match about {

@@ -23,6 +23,6 @@ mod port;
 mod posting;
 mod sending;
 
-pub use about::About;
+pub use about::{About, passes};
 pub use blame::{Blame, REPLY_RULE, blame_for};
 pub use laws::{blames_agree, conditions_are_the_rules, first_that_fails_is_found};

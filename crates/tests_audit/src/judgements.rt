@@ -3,7 +3,7 @@
 
 use crate::ground::{sink_of, source_of};
 use crate::parsed_lines::entry_of;
-use chorus_judge::{Judgement, judge};
+use chorus_judge::{Asked, Judgement, Measure, judge};
 use chorus_show::{Status, journal_text, summary_text};
 use chorus_ui::Layout;
 use std::alloc::Global;
@@ -16,11 +16,29 @@ pub(crate) struct Outcome {
     pub(crate) written: String,
 }
 
-/// Judges the text for the layout asked, where this read fails, and this write, of at most so many bytes. None is numbered 0.
+/// Judges the text by the rules for the layout asked, where this read fails, and this write, of at most so many bytes. None is
+/// numbered 0.
 pub(crate) fn judged(
     rt: &impl Abort,
     alloc: Global,
-    asked: Option<Layout>,
+    layout: Option<Layout>,
+    text: &str,
+    read: u64,
+    most: usize,
+    write: u64,
+) -> Outcome {
+    let asked = Asked {
+        measure: Measure::Rules,
+        layout,
+    };
+    judged_as(rt, alloc, asked, text, read, most, write)
+}
+
+/// Judges the text as it is asked, where this read fails, and this write, of at most so many bytes. None is numbered 0.
+pub(crate) fn judged_as(
+    rt: &impl Abort,
+    alloc: Global,
+    asked: Asked,
     text: &str,
     read: u64,
     most: usize,
@@ -40,7 +58,7 @@ fn eight_sites() -> Option<Layout> {
 }
 
 /// The journal of the entries that these lines have, with their summary.
-fn journal_of(rt: &impl Abort, alloc: Global, lines: &str) -> String {
+pub(crate) fn journal_of(rt: &impl Abort, alloc: Global, lines: &str) -> String {
     let mut entries = Vec::new(alloc);
     for line in lines.lines() {
         let entry = entry_of(rt, alloc, line).expect(rt, "an entry");

@@ -1,12 +1,16 @@
-//! Tests of what reads a journal, by public items alone. Of `chorus_checker`: journals worked out by hand (`journals`). Of `chorus_audit`:
-//! texts with the entries that they are the report of, or with the first line that fails and its rule, and how sources and sinks end an
-//! audit (`audit_ends`); of `chorus_judge`: what journals are judged to be, and what is told of them (`judgements`), and which condition fails of each rule (`conditions`); of `chorus_picture`:
-//! whole pictures, and how sources and sinks end one (`pictures`). `ground` has the runs in memory. Of `chorus_show`: what is printed of the
-//! entries that the lines of a journal have, and their summary (`summaries`).
+//! Tests of what reads a journal, by public items alone. Of `chorus_checker`: journals worked out by hand
+//! (`journals`). Of `chorus_audit`: texts with the entries that they are the report of, or with the first line that
+//! fails and its rule, and how sources and sinks end an audit (`audit_ends`). Of `chorus_judge`: what journals are
+//! judged to be, and what is told of them (`judgements`), and which condition fails of each rule (`conditions`);
+//! the same by promises (`promised`, `broken_promises`). Of `chorus_picture`: whole pictures, and how sources and
+//! sinks end one (`pictures`). Of `chorus_show`: what is printed of the entries that the lines of a journal have,
+//! and their summary (`summaries`). `ground` has the runs in memory.
 #![tactic(auto)]
 
 #[cfg(test)]
 mod audit_ends;
+#[cfg(test)]
+mod broken_promises;
 #[cfg(test)]
 mod conditions;
 #[cfg(test)]
@@ -21,6 +25,8 @@ mod judgements;
 mod parsed_lines;
 #[cfg(test)]
 mod pictures;
+#[cfg(test)]
+mod promised;
 #[cfg(test)]
 mod summaries;
 #[cfg(test)]

@@ -27,7 +27,7 @@ fn assert_listed(rt: &impl Abort, alloc: Global) {
     let first = u64::MAX;
     let commands = 65_536;
     let count = u32::MAX;
-    let listed: [(&[&str], Words); 18] = [
+    let listed: [(&[&str], Words); 20] = [
         (&["replay"], Words::Replay),
         (&["run"], Words::Run),
         (&["run", "1"], Words::RunOn { turns: 1 }),
@@ -47,6 +47,14 @@ fn assert_listed(rt: &impl Abort, alloc: Global) {
         (
             &["judge", "16", "4"],
             Words::JudgeFor {
+                sites: 16,
+                turns: 4,
+            },
+        ),
+        (&["promises"], Words::Promises),
+        (
+            &["promises", "16", "4"],
+            Words::PromisesFor {
                 sites: 16,
                 turns: 4,
             },
@@ -72,7 +80,7 @@ fn assert_listed(rt: &impl Abort, alloc: Global) {
 
 /// Asserts that nothing is read in words that the list of the program's uses has not: too few, too many, and numbers beyond a limit.
 fn assert_unlisted(rt: &impl Abort, alloc: Global) {
-    let unlisted: [&[&str]; 24] = [
+    let unlisted: [&[&str]; 26] = [
         &["run", "0"],
         &["run", "3"],
         &["run", "8"],
@@ -91,6 +99,8 @@ fn assert_unlisted(rt: &impl Abort, alloc: Global) {
         &["judge", "16"],
         &["judge", "17", "1"],
         &["judge", "16", "3"],
+        &["promises", "16"],
+        &["promises", "16", "3"],
         &["picture", "16"],
         &["picture", "17", "1"],
         &["picture", "16", "3"],

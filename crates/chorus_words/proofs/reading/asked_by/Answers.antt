@@ -1,5 +1,5 @@
 use Rattle.std.proofs.Common.{rules, refl}
-use Rattle.chorus_words.proofs.Spelling.{no_audit, no_drawing, no_judging, no_run, no_explore, no_check}
+use Rattle.chorus_words.proofs.Spelling.{no_audit, no_drawing, no_judging, no_promising, no_run, no_explore, no_check}
 use Rattle.chorus_words.proofs.reading.asked_by.Goals as goal
 
 pub returns-in_err-layout-in-audit-Some-Some-clause-none :
@@ -11,6 +11,11 @@ pub returns-in_err-layout-in-judge-Some-Some-clause-none :
     goal.returns-in_err-layout-in-judge-Some-Some-clause-none
 returns-in_err-layout-in-judge-Some-Some-clause-none c = λ _ asked by.
     no_judging _ _ _ _ _ (search rules) (search rules) (search rules) (c.in_err-layout-in-judge-Some-Some.ensures.none refl) asked by
+
+pub returns-in_err-layout-in-promises-Some-Some-clause-none :
+    goal.returns-in_err-layout-in-promises-Some-Some-clause-none
+returns-in_err-layout-in-promises-Some-Some-clause-none c = λ _ asked by.
+    no_promising _ _ _ _ _ (search rules) (search rules) (search rules) (c.in_err-layout-in-promises-Some-Some.ensures.none refl) asked by
 
 pub returns-in_err-layout-in-picture-Some-Some-clause-none :
     goal.returns-in_err-layout-in-picture-Some-Some-clause-none
