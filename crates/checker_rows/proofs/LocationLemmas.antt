@@ -63,10 +63,6 @@ location_own k e s t is a b at =
     ∙ (ap (λ z. cond z (farther at (of_port k.name (Some t))) at) a
     ∙ ap (λ z. farther at (cond z (Some t.location) None)) b)
 
-none_case : (b : Bool) (at : Location) → cond b (farther at None) at ≡ at
-none_case true at = refl
-none_case false at = refl
-
 -- A table after one location is put.
 module _ (old new : NameAt → Option Location) (l : Layout) where
   pub put_location : (k : NameAt) (row : Location) (f : NameAt → Location → Location) → ((q : NameAt) → new q ≡ cond (same_name_at k q) (Some row) (old q)) → row ≡ f k (unwrap_or (old k) (named_location l k.name)) → ((q : NameAt) → same_name_at k q ≡ false → (v : Location) → f q v ≡ v) → (q : NameAt) → unwrap_or (new q) (named_location l q.name) ≡ f q (unwrap_or (old q) (named_location l q.name))

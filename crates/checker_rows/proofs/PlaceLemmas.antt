@@ -4,12 +4,12 @@ use Rattle.std.proofs.lemmas.Bool.{eq-eqb}
 use Rattle.std.specs.List.{filter}
 use Rattle.chorus_entry.specs.declared.entry.Entry.{Entry}
 use Rattle.chorus_entry.specs.declared.act.Act.{Act}
-use Rattle.chorus_entry.specs.declared.act.Act.TheVariants.{Make, Take, GroupMake}
+use Rattle.chorus_entry.specs.declared.act.Act.TheVariants.{Make, GroupMake}
 use Rattle.chorus_entry.specs.Order.{is_at}
 use Rattle.chorus_world.specs.Views.{at}
-use Rattle.chorus_world.specs.Places.{ports_after, ports_made, reply_taken_by}
+use Rattle.chorus_world.specs.Places.{ports_after, ports_made}
 use Rattle.chorus_world.specs.Groups.{groups_after, groups_made}
-use Rattle.checker_rows.specs.Places.{fold_place, place_row, place_here, place_after, taking, reply_of}
+use Rattle.checker_rows.specs.Places.{fold_place, place_row, place_here, place_after}
 use Rattle.checker_rows.specs.declared.places.PlaceRow.{PlaceRow}
 
 place_case : (e : Entry) (here : List Entry) (b : Bool) → fold_place (cond b (e ∷ here) here) ≡ cond b (place_here e (fold_place here)) (fold_place here)
@@ -24,11 +24,6 @@ place_apart p e h r = ap (λ b. cond b (place_here e r) r) h
 
 pub place_own : (e : Entry) (r : PlaceRow) → place_after e.place e r ≡ place_here e r
 place_own e r = ap (λ b. cond b (place_here e r) r) (eq-eqb e.place e.place refl)
-
--- the reply that was taken
-taken_case : (past : List Entry) (s : ℕ) (a : Act) → reply_taken_by past s a ≡ reply_of past (taking s a)
-taken_case past s (Take q n x) = refl
-taken_case past s _ = refl
 
 -- no more ports and groups than entries
 ports_case : (a : Act) (n k : ℕ) → n ≤ k → ports_after a n ≤ k + 1

@@ -1,23 +1,23 @@
 -- A first table stands for no entries, and a publish makes one that stands for the entries that it names.
-use Rattle.std.proofs.Common.{◌≡◌, ℕ, ◌*◌, nat_le, nat_lt, Bool, true, false, ◌&&◌, if◌then◌else◌, cond, Some, None, List, [], ◌∷◌, length, slice_index_or, refl, ap, sym, ◌∙◌, subst, arith}
+use Rattle.std.proofs.Common.{◌≡◌, ℕ, ◌*◌, nat_le, nat_lt, Bool, true, false, ◌&&◌, if◌then◌else◌, cond, Some, None, List, [], ◌∷◌, length, refl, ap, sym, ◌∙◌, subst, arith}
 use Rattle.std.proofs.lemmas.Bool.{and_from, and_parts}
 use Rattle.chorus_ui.specs.declared.kind.Kind.TheVariants.{Port}
 use Rattle.chorus_ui.specs.declared.layout.Layout.{Layout}
 use Rattle.chorus_ui.specs.declared.limits.TheConstants.{PORTS_PER_SITE_LIMIT}
 use Rattle.chorus_ui.specs.declared.ui.Ui.{Ui}
 use Rattle.chorus_ui.specs.Kind.{same_kind}
-use Rattle.chorus_ui.specs.Layout.{can_make_port, creation_place, has_site, names_port, port_row}
+use Rattle.chorus_ui.specs.Layout.{can_make_port, creation_place, has_site, names_port}
 use Rattle.chorus_ui.specs.Name.{same_ui}
 use Rattle.chorus_entry.specs.declared.entry.Entry.{Entry}
 use Rattle.chorus_world.specs.declared.place.Location.{Location}
-use Rattle.chorus_world.specs.Places.{farther, named_location}
+use Rattle.chorus_world.specs.Places.{farther}
 use Rattle.chorus_hints.specs.Known.{Known, kept, newest_of, newest, nothing_known, known_after}
 use Rattle.chorus_hints.proofs.Lessons.{newest-learned}
 use Rattle.chorus_hints.proofs.Values.{kept-nothing_known, length-nothing_known, kept-known_after, layout-known_after, length-known_after}
 use Rattle.chorus_board.specs.declared.table.Table.{Table}
 use Rattle.chorus_board.specs.declared.table.Publish.{Publish}
 use Rattle.chorus_board.specs.Law.{entries_in}
-use Rattle.chorus_board.specs.Located.{located_after, located_on, last_clock_in, pair_of, told_of, IsPortIn, IsOfPlace}
+use Rattle.chorus_board.specs.Located.{located_after, last_clock_in, pair_of, told_of, IsPortIn, IsOfPlace}
 use Rattle.chorus_board.specs.Table.{told, stands_for, Exact, IsRoomy, Fine}
 use Rattle.chorus_board.specs.Writers.{IsReady}
 
@@ -47,20 +47,6 @@ first_fine l table hints upto clock log = (
   subst (IsOfPlace table.place) (sym log) (λ i e at_i. absurd cc),
   clock ∙ sym (ap last_clock_in log),
 )
-
--- what is known of a port of a site of the layout
-pub told_on : (known : Known) (log : List Entry) (q : Ui) → Exact known log → has_site known.layout q.site ≡ true → newest known q ≡ pair_of (located_on known.layout log q)
-told_on known log q exact site = by (names_port known.layout q) refl
-  where
-    choice : Bool → ℕ × ℕ
-    choice b = pair_of (if b then located_after known.layout log q else named_location known.layout q)
-
-    by : (b : Bool) → names_port known.layout q ≡ b → newest known q ≡ choice (names_port known.layout q)
-    by true is = exact q is ∙ ap choice (sym is)
-    by false is =
-        ap (λ (b : Bool). newest_of known.layout q (if b then slice_index_or known.pairs (port_row q) None else None)) is
-        ∙ ap (λ (b : Bool). (cond b (creation_place known.layout q) 0, 0)) (sym site)
-        ∙ ap choice (sym is)
 
 -- the farther of a location and what a publish tells, as a pair
 told_pair : (at : Location) (q ui : Ui) (place hop : ℕ) → pair_of (farther at (told_of q ui place hop)) ≡ (if same_ui ui q && nat_lt at.hop hop then (place, hop) else pair_of at)

@@ -13,18 +13,6 @@ use Rattle.chorus_choose.specs.declared.chooser.Enabled.{Enabled}
 use Rattle.chorus_choose.specs.Looking.{placed, index_of, is_enabled, without, turned, AreApart, IsChooser, IsFalling}
 use Rattle.chorus_choose.specs.Changes.{of_priority}
 
--- one more that has at least the priority
-pub placed-step : (e : Enabled) (xs : List Enabled) (i : ℕ) (d : Enabled) → i < length xs → e.priority ≤ (get_or xs i d).priority → take i xs ++ placed e (drop i xs) ≡ take (i + 1) xs ++ placed e (drop (i + 1) xs)
-placed-step e [] i d h le = absurd (omega arith)
-placed-step e (x ∷ xs) zero d h le = grind (arith, nat_tests)
-placed-step e (x ∷ xs) (suc i) d h le = let more = placed-step e xs i d (omega arith) le in grind (arith, more)
-
--- and one that has less
-pub placed-stop : (e : Enabled) (xs : List Enabled) (i : ℕ) (d : Enabled) → i < length xs → (get_or xs i d).priority < e.priority → placed e (drop i xs) ≡ e ∷ drop i xs
-placed-stop e [] i d h lt = absurd (omega arith)
-placed-stop e (x ∷ xs) zero d h lt = grind (arith, nat_tests)
-placed-stop e (x ∷ xs) (suc i) d h lt = placed-stop e xs i d (omega arith) lt
-
 pub enabled-index : (q : Ui) (xs : List Enabled) → is_enabled q xs ≡ nat_lt (index_of q xs) (length xs)
 enabled-index q [] = grind (arith, nat_tests)
 enabled-index q (x ∷ xs) = grind (arith, nat_tests, enabled-index q xs)
@@ -206,9 +194,6 @@ falling-turned r (x ∷ xs) f = go (same_ui x.port r) (falling-turned r xs f.1)
     go false more = (all-turned (λ (y : Enabled). y.priority ≤ x.priority) r xs f.0, more)
 
 -- What a chooser keeps.
-
-pub chooser-none : IsChooser []
-chooser-none = record { few = omega arith; ports = All-nil (λ (x : Enabled). is_port x.port ≡ true); apart = tt; falling = tt }
 
 pub chooser-placed : (e : Enabled) (xs : List Enabled) → IsChooser xs → is_port e.port ≡ true → is_enabled e.port xs ≡ false → length xs < 32 → IsChooser (placed e xs)
 chooser-placed e xs c port new room = record {

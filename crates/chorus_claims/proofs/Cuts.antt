@@ -83,7 +83,3 @@ pub last_line : (text line : List ℕ) → text ≢ [] → (line, None) ≡ cut 
 unfolding lines
 last_line text line some e =
     first_line text some ∙ sym (ap (λ (p : List ℕ × Option (List ℕ)). p.0 ∷ lines_behind p.1) e)
-
-pub last_short : (text : List ℕ) → text ≢ [] → 0 < length text
-last_short [] some = absurd (some refl)
-last_short (c ∷ cs) some = omega arith

@@ -1,15 +1,15 @@
 -- What is found word by word is what the lists of choices say.
 -- ps are the words of a fact, ws those of a line, c and d are choices, e says the same of the letters, k is a letter.
-use Rattle.std.proofs.Common.{ℕ, zero, suc, ◌≡◌, ◌≢◌, ◌≤◌, ◌<◌, ◌-◌, ◌==◌, nat_le, Bool, true, false, not, ◌&&◌, ◌||◌, cond, List, [], ◌∷◌, length, replicate, Option, Some, None, refl, sym, ◌∙◌, ◌⊎◌, inl, inr, ap, ap₂, subst, arith}
+use Rattle.std.proofs.Common.{ℕ, ◌≡◌, ◌≢◌, ◌≤◌, ◌<◌, ◌-◌, ◌==◌, nat_le, Bool, true, false, not, ◌&&◌, ◌||◌, cond, List, [], ◌∷◌, length, replicate, Option, Some, None, refl, sym, ◌∙◌, ◌⊎◌, inl, inr, ap, ap₂, subst, arith}
 use Rattle.std.specs.List.{flat_map, list_all}
 use Rattle.std.specs.Str.{bytes_eq}
 use Rattle.std.proofs.lemmas.Bool.{eqb-true, eqb-false}
 use Rattle.std.proofs.lemmas.Bool.Decides.{nat_tests}
 use Rattle.std.proofs.lemmas.List.{get_or-set_same, get_or-set_other, length-set, get_or-replicate}
-use Rattle.chorus_claims.specs.Words.{not_empty, is_and, is_or, is_middle, is_mark, is_any, is_rest, letter_in, words_in}
-use Rattle.chorus_claims.specs.Pieces.{Piece, Word, Any, Rest, Letter, Choice, chosen, with_word, tails, fits, choices, is_none, is_so, is_one_so, Claim, meets}
+use Rattle.chorus_claims.specs.Words.{is_middle, is_mark, is_any, is_rest, letter_in, words_in}
+use Rattle.chorus_claims.specs.Pieces.{Piece, Word, Any, Rest, Letter, Choice, chosen, with_word, tails, fits, choices, is_none, is_one_so, Claim, meets}
 use Rattle.chorus_claims.specs.Shapes.{piece_of, piece_or_word, in_fact, facts_in, behind_middle, form_in, facts_of, claim_in, claim_of_words, asked_by}
-use Rattle.chorus_claims.specs.Ways.{letter_step, step_of, behind_step, meaning, with_meaning, way, one_right, all_left, first_fact, later_facts}
+use Rattle.chorus_claims.specs.Ways.{letter_step, behind_step, meaning, with_meaning, way, one_right, all_left}
 use Rattle.chorus_claims.specs.declared.letters.Step.TheVariants as steps
 use Rattle.chorus_claims.specs.declared.form.Form.{Form}
 use Rattle.chorus_claims.specs.declared.form.Form.TheVariants.{Never, Possible, Always, Implies, Before}

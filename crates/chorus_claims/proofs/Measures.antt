@@ -1,5 +1,5 @@
 -- How much is left to look for.
-use Rattle.std.proofs.Common.{ℕ, ◌+◌, ◌*◌, Option}
+use Rattle.std.proofs.Common.{ℕ, ◌+◌, ◌*◌}
 use Rattle.std.specs.Option.{option_copied}
 use Rattle.chorus_claims.specs.Words.{text_left}
 use Rattle.chorus_claims.specs.declared.matching.Right.{Right}

@@ -3,11 +3,10 @@
 use Rattle.std.proofs.Common.{ℕ, ◌≡◌, ◌==◌, length, Bool, true, false, not, ◌&&◌, ◌||◌, cond, List, [], ◌∷◌, codes, Option, Some, None, refl, sym, ◌∙◌, ap, subst, arith}
 use Rattle.std.specs.List.{list_all}
 use Rattle.std.proofs.lemmas.Bool.{eqb-true}
-use Rattle.chorus_claims.specs.Words.{not_empty, is_and, is_or, is_middle, is_mark, is_any, is_rest, letter_in, words_in}
-use Rattle.chorus_claims.specs.Pieces.{Piece, Word, Any, Rest, Letter, tails}
-use Rattle.chorus_claims.specs.Shapes.{piece_of, piece_or_word, in_fact, facts_in, behind_middle}
+use Rattle.chorus_claims.specs.Words.{not_empty, is_middle, is_mark, is_any, is_rest, letter_in, words_in}
+use Rattle.chorus_claims.specs.Pieces.{Piece, Any, Rest, tails}
+use Rattle.chorus_claims.specs.Shapes.{piece_of, piece_or_word, in_fact, facts_in}
 use Rattle.chorus_claims.specs.Ways.{step_of, behind_step, with_meaning, way, one_right, all_left, first_fact, later_facts, goes_on, right_of, way_from, each_line, each_tail, behind_rests}
-use Rattle.chorus_claims.specs.declared.letters.Step.TheVariants as steps
 use Rattle.chorus_claims.specs.declared.matching.Asked.{Asked}
 use Rattle.chorus_claims.specs.declared.matching.Ending.{Ending}
 use Rattle.chorus_claims.specs.declared.matching.Ending.TheVariants.{Goes, Found}

@@ -1,20 +1,12 @@
 -- Packets in memory: of one place, and by place.
-use Rattle.std.proofs.Common.{ℕ, zero, suc, ◌≡◌, ◌≢◌, ◌+◌, ◌<◌, ◌≤◌, ◌==◌, Bool, true, false, cond, List, [], ◌∷◌, ◌++◌, map, length, take, drop, get_or, set, drop-cons, refl, sym, ◌∙◌, ap, subst, arith}
-use Rattle.std.specs.List.{filter, remove}
+use Rattle.std.proofs.Common.{ℕ, suc, ◌≡◌, ◌≢◌, ◌+◌, ◌<◌, ◌≤◌, ◌==◌, Bool, true, false, cond, List, [], ◌∷◌, ◌++◌, map, length, take, drop, get_or, set, drop-cons, refl, sym, ◌∙◌, ap, subst}
+use Rattle.std.specs.List.{remove}
 use Rattle.std.proofs.lemmas.Bool.{eq-eqb, ne_eqb, eqb-true, eqb-false}
 use Rattle.std.proofs.lemmas.List.{take-append-drop, map-append, map-set, length-map, get_or-map, get_or-set_same, get_or-set_other}
 use Rattle.std.proofs.Math.Seq.{map-set_same}
-use Rattle.std.proofs.lemmas.Grind.{common_steps}
 use Rattle.std.proofs.lemmas.List.Elements.{filter-append, filter_more}
 use Rattle.chorus_entry.specs.declared.packet.Packet.{Packet}
-use Rattle.chorus_ends.specs.Links.{with_packet}
-use Rattle.chorus_ends.specs.Memory.{Kept, is_from, from_place, to_place, NoneFrom, IsFirstFrom, GoesTo, IsSame}
-
--- one list more, in which nothing is
-pub to-new-list : (p : ℕ) (ls : List (List Packet)) → to_place p (ls ++ [] ∷ []) ≡ to_place p ls
-to-new-list p [] = grind (arith, common_steps)
-to-new-list zero (l ∷ ls) = refl
-to-new-list (suc p) (l ∷ ls) = to-new-list p ls
+use Rattle.chorus_ends.specs.Memory.{is_from, from_place, to_place, NoneFrom, IsFirstFrom, GoesTo, IsSame}
 
 -- one packet more is looked at
 pub none-on : (p at : ℕ) (packets : List Packet) (d : Packet) → at < length packets → (get_or packets at d).from ≢ p → NoneFrom p at packets → NoneFrom p (at + 1) packets

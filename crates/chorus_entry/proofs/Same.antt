@@ -7,8 +7,6 @@ use Rattle.chorus_ui.specs.Name.{same_ui}
 use Rattle.chorus_ui.proofs.Names.{from_same_ui, same_ui-self}
 use Rattle.chorus_entry.specs.declared.dest.Dest.{Dest}
 use Rattle.chorus_entry.specs.declared.dest.Dest.TheVariants as D
-use Rattle.chorus_entry.specs.declared.tag.Tag.{Tag}
-use Rattle.chorus_entry.specs.declared.tag.Tag.TheVariants as T
 use Rattle.chorus_entry.specs.declared.id.MsgId.{MsgId}
 use Rattle.chorus_entry.specs.declared.answer.Answer.{Answer}
 use Rattle.chorus_entry.specs.declared.answer.Answer.TheVariants.{Accepted, Full, Stale, Early, NoPort, Already, ClientsFull, Elsewhere, NoMember, Chosen, Gone}
@@ -18,7 +16,6 @@ use Rattle.chorus_entry.specs.Dest.{same_dest}
 use Rattle.chorus_entry.specs.Ids.{same_ids, same_ids-equivalence}
 use Rattle.chorus_entry.specs.Members.{same_uis, same_uis-equivalence}
 use Rattle.chorus_entry.specs.MsgId.{same_id}
-use Rattle.chorus_entry.specs.Tag.{same_tag}
 
 pub from_same_id : (x y : MsgId) → same_id x y ≡ true → x ≡ y
 from_same_id x y h =
@@ -68,17 +65,6 @@ from_same_dest (D.All g) (D.All h) e = ap D.All (from_same_ui g h e)
 from_same_dest (D.One g) (D.One h) e = ap D.One (from_same_ui g h e)
 from_same_dest (D.OneAt g s) (D.OneAt h t) e = let both = and_parts (same_ui g h) (s == t) e in λ i. D.OneAt (from_same_ui g h both.0 i) (eqb-true s t both.1 i)
 from_same_dest _ _ h = absurd (cc)
-
-pub same_tag-self : (t : Tag) → same_tag t t ≡ true
-same_tag-self T.Plain = refl
-same_tag-self (T.Request n q) = λ i. eq-eqb n n refl i && same_ui-self q i
-same_tag-self (T.Reply c n) = λ i. eq-eqb c c refl i && eq-eqb n n refl i
-
-pub from_same_tag : (t u : Tag) → same_tag t u ≡ true → t ≡ u
-from_same_tag T.Plain T.Plain h = refl
-from_same_tag (T.Request n q) (T.Request m r) h = let both = and_parts (n == m) (same_ui q r) h in λ i. T.Request (eqb-true n m both.0 i) (from_same_ui q r both.1 i)
-from_same_tag (T.Reply c n) (T.Reply d m) h = let both = and_parts (c == d) (n == m) h in λ i. T.Reply (eqb-true c d both.0 i) (eqb-true n m both.1 i)
-from_same_tag _ _ h = absurd (cc)
 
 pub from_same_ids : (xs ys : List MsgId) → same_ids xs ys ≡ true → xs ≡ ys
 from_same_ids xs ys = (pointwise_decides (λ x y. (from_same_id x y, λ e. subst (λ z. same_id x z ≡ true) e (same_id-self x))) xs ys).0

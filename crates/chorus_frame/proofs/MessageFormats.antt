@@ -17,7 +17,7 @@ use Rattle.chorus_entry.specs.declared.tag.Tag.TheVariants.{Plain, Request, Repl
 use Rattle.chorus_entry.specs.declared.message.Message.{Message}
 use Rattle.chorus_entry.specs.Kinds.{has_kinds_in_tag}
 use Rattle.chorus_entry.specs.Ranges.{is_route, is_demanded_site, has_range_of_id, has_range_of_tag, has_ranges_of_message}
-use Rattle.chorus_frame.specs.Fault.{Fault, Short, Range}
+use Rattle.chorus_frame.specs.Fault.{Range}
 use Rattle.chorus_frame.specs.Fault as faults
 use Rattle.chorus_frame.specs.Numbers.{number, bytes_at, ranged_at}
 use Rattle.chorus_frame.specs.Laws.{AreBytes}

@@ -74,10 +74,6 @@ AreBytes-bytes zero x i = omega arith
 AreBytes-bytes (suc n) x zero = byte_at-fits n x
 AreBytes-bytes (suc n) x (suc i) = AreBytes-bytes n x i
 
-pub number-length : (width n : ℕ) → length (number width n) ≡ width
-unfolding number
-number-length width n = length-bytes_high_first width n
-
 -- the bytes of the number that bytes are
 number-back : (width : ℕ) (bytes : List ℕ) → width ≤ length bytes → AreBytes bytes → big_bytes width (big_number width bytes) ≡ take width bytes
 number-back width bytes long fits =

@@ -16,7 +16,7 @@ use Rattle.chorus_entry.specs.Ranges.{is_from, is_place_number, is_site_number, 
 use Rattle.std.specs.Prelude.{IfOk}
 use Rattle.chorus_frame.specs.declared.fault.DecodeFault.{DecodeFault}
 use Rattle.chorus_frame.specs.Calls.{Gives}
-use Rattle.chorus_frame.specs.Fault.{Fault, Range, Trailing}
+use Rattle.chorus_frame.specs.Fault.{Range, Trailing}
 use Rattle.chorus_frame.specs.Fault as faults
 use Rattle.chorus_frame.specs.Numbers.{number, ranged_at}
 use Rattle.chorus_frame.specs.Laws.{AreBytes}

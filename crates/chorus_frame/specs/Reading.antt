@@ -20,7 +20,7 @@ use Rattle.chorus_entry.specs.declared.packet.Cargo.{Cargo}
 use Rattle.chorus_entry.specs.declared.packet.Cargo.TheVariants.{Try, Verdict, Transfer, Ask, Report}
 use Rattle.chorus_entry.specs.ClientTable.{number_of}
 use Rattle.chorus_entry.specs.Ranges.{is_from, is_place_number, is_site_number}
-use Rattle.chorus_frame.specs.Fault.{Fault, Short, Range, Trailing}
+use Rattle.chorus_frame.specs.Fault.{Fault, Range, Trailing}
 use Rattle.chorus_frame.specs.Fault as faults
 use Rattle.chorus_frame.specs.Numbers.{◌>>=◌, number_at, bytes_at, tested_at, ranged_at}
 

@@ -81,12 +81,3 @@ none_case false x o ys xs f h k = ap (λ zs. x ∷ zs) (k h)
 pub changed_none : (g : Ui) (f : Group → Group) (xs : List Group) → group_of g xs ≡ None → changed g f xs ≡ xs
 changed_none g f [] h = refl
 changed_none g f (x ∷ xs) h = none_case (same_ui x.ui g) x (group_of g xs) (changed g f xs) xs f h (changed_none g f xs)
-
-same_case : (b : Bool) (x : Group) (ys xs : List Group) → ys ≡ xs → cond b (x ∷ xs) (x ∷ ys) ≡ x ∷ xs
-same_case true x ys xs e = refl
-same_case false x ys xs e = ap (λ zs. x ∷ zs) e
-
--- nor where it is changed to what it is
-pub changed_same : (g : Ui) (xs : List Group) → changed g (λ x. x) xs ≡ xs
-changed_same g [] = refl
-changed_same g (x ∷ xs) = same_case (same_ui x.ui g) x (changed g (λ y. y) xs) xs (changed_same g xs)

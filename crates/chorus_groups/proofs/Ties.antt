@@ -1,11 +1,11 @@
 -- What a layer above needs to tie the groups to a history of them: a group after another is made or changed, and choices.
-use Rattle.std.proofs.Common.{ℕ, ◌≡◌, ◌+◌, nat_lt, Bool, true, false, cond, List, [], ◌∷◌, ◌++◌, length, map, take, drop, Option, Some, None, refl, sym, ◌∙◌, ap, arith}
+use Rattle.std.proofs.Common.{ℕ, ◌≡◌, ◌+◌, Bool, true, false, cond, List, [], ◌∷◌, ◌++◌, map, take, drop, Option, Some, None, refl, sym, ◌∙◌, ap}
 use Rattle.std.specs.List.{find}
 use Rattle.std.specs.Option.{option_or}
 use Rattle.std.proofs.lemmas.List.{map-append, drop-map, take-map}
 use Rattle.chorus_ui.specs.declared.ui.Ui.{Ui}
 use Rattle.chorus_ui.specs.Name.{same_ui}
-use Rattle.chorus_entry.specs.Members.{IsPosition, round_from, turned}
+use Rattle.chorus_entry.specs.Members.{round_from}
 use Rattle.chorus_groups.specs.Groups.{Group, group_of, new_group}
 use Rattle.chorus_groups.specs.Choosing.{is_on, first_at}
 
@@ -18,16 +18,6 @@ pub group_of-made : (g h : Ui) (xs : List Group) →
     group_of g (xs ++ new_group h ∷ []) ≡ option_or (group_of g xs) (cond (same_ui h g) (Some (new_group h)) None)
 group_of-made g h [] = refl
 group_of-made g h (x ∷ xs) = made_case (same_ui x.ui g) (same_ui h g) x (new_group h) (group_of g xs) _ (group_of-made g h xs)
-
--- the rotation place stays also where a broadcast to one member counts as a choice of it
-pub broadcast_stays : (qs : List Ui) (i : ℕ) → IsPosition i (length qs) → turned qs qs i ≡ i
-broadcast_stays [] i p = refl
-broadcast_stays (q ∷ []) i p = one (same_ui q q)
-  where
-    one : (b : Bool) → cond (nat_lt (cond b 0 1 + 1) 1) (cond b 0 1 + 1) 0 ≡ i
-    one true = omega arith
-    one false = omega arith
-broadcast_stays (q ∷ r ∷ rs) i p = refl
 
 find_case : (b : Bool) (q : Ui) (o p : Option Ui) → o ≡ p → cond b (Some q) o ≡ cond b (Some q) p
 find_case b q o p e = ap (λ x. cond b (Some q) x) e

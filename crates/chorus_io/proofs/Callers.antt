@@ -1,21 +1,13 @@
 -- What a caller of `read_all` and `write_all` cites: the whole input, and a text that is written in pieces.
-use Rattle.std.proofs.Common.{◌≡◌, ℕ, List, [], ◌++◌, Option, None, Some, IfSome, refl, ap, sym, subst, ◌∙◌, append_assoc, append-nil}
+use Rattle.std.proofs.Common.{◌≡◌, ℕ, List, [], ◌++◌, Option, None, Some, IfSome, ap, sym, subst, ◌∙◌, append_assoc}
 use Rattle.std.specs.Io.KnownBytes.{Appends}
-use Rattle.std.proofs.KnownBytes.{Appends-nil, Appends-trans}
+use Rattle.std.proofs.KnownBytes.{Appends-trans}
 use Rattle.chorus_io.specs.Bytes.{AppendsPrefix}
 
 -- what holds of the bytes that were read holds of the input
 pub IfSome-whole : (left : Option (List ℕ)) (bytes : List ℕ) (P : List ℕ → Type 0) → IfSome left (λ input. bytes ≡ input) → P bytes → IfSome left P
 IfSome-whole None bytes P whole holds = tt
 IfSome-whole (Some input) bytes P whole holds = subst P whole holds
-
--- nothing was written
-pub AppendsPrefix-none : (held : Option (List ℕ)) (text : List ℕ) → AppendsPrefix held held text
-AppendsPrefix-none held text = record { sent = []; unsent = text; whole = refl; grown = Appends-nil held }
-
--- all was written
-pub AppendsPrefix-all : (old new : Option (List ℕ)) (text : List ℕ) → Appends old new text → AppendsPrefix old new text
-AppendsPrefix-all old new text all = record { sent = text; unsent = []; whole = sym (append-nil text); grown = all }
 
 -- writing ended in the first piece
 pub AppendsPrefix-first : (old new : Option (List ℕ)) (first rest : List ℕ) → AppendsPrefix old new first → AppendsPrefix old new (first ++ rest)

@@ -39,9 +39,6 @@ module _ (mark : ℕ) (text : List ℕ) (i : ℕ) (total : List ℕ × Option (L
       let t : take i text ++ [] ≡ text = grind (arith, common_steps) in
       rw (d, t) at so_far
 
-pub cut_start : (mark : ℕ) (text : List ℕ) → cut_behind (take 0 text) (cut mark (drop 0 text)) ≡ cut mark text
-cut_start mark text = grind (arith, common_steps)
-
 module _ (test : ℕ → Bool) (xs : List ℕ) (i : ℕ) (total : Bool) (so_far : each_byte test (drop i xs) ≡ total) where
   here : i < length xs → (test (get_or xs i 0) && each_byte test (drop (i + 1) xs)) ≡ total
   unfolding each_byte

@@ -150,7 +150,3 @@ grows-rounds first bytes (suc k) =
 pub between : {a b c d : Moment} (e : Ends) → Grows a b → Grows c d → IsBetween b c e → IsBetween a d e
 between {a} {b} {c} {d} e before behind i =
     record { mid = i.mid; from = grows-then before i.from; to = grows-then i.to behind; ends = i.ends }
-
--- the ends after a part of what happens
-pub between-first : {m later : Moment} → Grows m later → IsBetween m later m.ends
-between-first {m} {later} g = record { mid = m; from = grows-same m m refl refl; to = g; ends = refl }

@@ -14,7 +14,7 @@ use Rattle.chorus_transport.specs.declared.receiver.Got.{Got}
 use Rattle.chorus_transport.specs.declared.receiver.Got.TheVariants as got
 use Rattle.chorus_transport.specs.Sending.{Sending, next_number, after_put, moved, after_ack, emitted}
 use Rattle.chorus_transport.specs.Sending as sending
-use Rattle.chorus_transport.specs.Receiving.{Receiving, new_receiving, after_arrival, next_chunk, after_next, passed, kept, ack_of, is_known}
+use Rattle.chorus_transport.specs.Receiving.{Receiving, after_arrival, next_chunk, passed, kept}
 use Rattle.chorus_transport.specs.Receiving as receiving
 use Rattle.chorus_transport.proofs.ListLemmas.{slice_get-drop, set_cases}
 use Rattle.chorus_transport.proofs.PlaceLemmas.{get_or-replicate_none, get_or-padded, prefix_len-padded}

@@ -12,7 +12,7 @@ use Rattle.law_network.specs.Left.{placed_at}
 use Rattle.law_network.specs.Network.{NetState}
 use Rattle.chorus_place.specs.Calls.{Place, state}
 use Rattle.chorus_net.specs.declared.closed.Closed.{Closed}
-use Rattle.chorus_net.specs.Closing.{closed_journals, flat, journals_in, packets_of, ports_of, HasPartsOf, HasMark, IsWith}
+use Rattle.chorus_net.specs.Closing.{closed_journals, flat, journals_in, packets_of, ports_of, HasMark, IsWith}
 use Rattle.chorus_net.specs.Sites.{SitesState, ArePlaces, IsPlaceOf, IsSites}
 use Rattle.chorus_net.specs.Starting.{HasStarted, HaveStarted, IsUntouched}
 use Rattle.chorus_net.proofs.Parts.{one-more}
@@ -104,22 +104,6 @@ one-taken l mark i all ps p q old new h e lt w s =
       ports = one-more old.ports.items (placed_at p.number p.ports) (ports_of rest) (ports_of all)
           (ap (λ ds. old.ports.items ++ ports_of ds) (sym d) ∙ h.ports) new.ports.items w.ports;
       origin = w.origin ∙ h.origin;
-    }
-
-drop-all : (ps : List Place) (i : ℕ) → length ps ≡ i → drop i ps ≡ []
-drop-all [] zero e = refl
-drop-all [] (suc i) e = refl
-drop-all (p ∷ ps) zero e = absurd (omega (arith, e))
-drop-all (p ∷ ps) (suc i) e = drop-all ps i (omega (arith, e))
-
-pub all-taken : (l : Layout) (mark i : ℕ) (all ps : List Place) (closed : Closed) → AreTaken l mark i all ps closed → length ps ≡ i → HasPartsOf mark all closed
-all-taken l mark i all ps closed h e =
-    let d = sym (drop-all ps i e) in
-    record {
-      journals = sym (append-nil (closed_journals closed)) ∙ ap (λ ds. closed_journals closed ++ journals_in ds) d ∙ h.journals;
-      rest = sym (append-nil closed.rest.items) ∙ ap (λ ds. closed.rest.items ++ packets_of ds) d ∙ h.rest;
-      ports = sym (append-nil closed.ports.items) ∙ ap (λ ds. closed.ports.items ++ ports_of ds) d ∙ h.ports;
-      origin = h.origin;
     }
 
 -- What is left of a place that has nothing.

@@ -1,6 +1,6 @@
 -- Rounds of deliveries, one after the other.
 use Rattle.std.proofs.Common.{ℕ, zero, suc, ◌≡◌, ◌≢◌, ◌+◌, ◌-◌, ◌<◌, ◌≤◌, ◌==◌, nat_le, Bool, true, false, ◌&&◌, cond, List, [], ◌∷◌, ◌++◌, length, reverse, get_or, Option, Some, None, is_some, slice_get, refl, sym, ◌∙◌, ap, subst, arith, append_assoc}
-use Rattle.std.proofs.lemmas.Bool.{and_from, le-leb, eq-eqb, ne_eqb}
+use Rattle.std.proofs.lemmas.Bool.{and_from, le-leb, ne_eqb}
 use Rattle.std.proofs.lemmas.List.{reverse-append, append-nil}
 use Rattle.chorus_ui.specs.declared.layout.Layout.{Layout}
 use Rattle.chorus_ui.specs.declared.limits.TheConstants.{CLOCK_LIMIT}
@@ -125,9 +125,6 @@ round-done l n m i g = record {
 one-list : (a b : ℕ) → (a == b) ≡ false → from_one 0 a (b ∷ []) ≡ Deliver 0 a b ∷ []
 one-list a b e = ap (λ c. cond c [] (Deliver 0 a b ∷ []) ++ []) e
 
-pub same-place : (a b : ℕ) (n : NetState) → a ≡ b → Goes (from_one 0 a (b ∷ [])) n n 0
-same-place a b n e = subst (λ es. Goes es n n 0) (sym (ap (λ c. cond c [] (Deliver 0 a b ∷ []) ++ []) (eq-eqb a b e))) (goes-none n)
-
 -- what it answers says whether it serves
 first-of : (o : Option Packet) (b : Bool) → delivery_of o ≡ cond b Delivered.Served Delivered.Nothing → is_some o ≡ b
 first-of None true h = absurd (cc)
@@ -195,9 +192,6 @@ pub idle-first : (s : SitesState) (a b i : ℕ) (p : Place) → IsSites s → a 
 idle-first s a b i p h e lt at has none = first-waiting s a b i p h e lt at has ∙ none-first b p.out.lists none
 
 -- Rounds.
-
-pub rounds-none : (l : Layout) (n : NetState) → GoesRounds l n n 0
-rounds-none l n = record { count = 0; after = refl; unworn = tt; total = refl; risen = omega arith; last = λ h. absurd (omega (arith, h)) }
 
 pub rounds-on : (l : Layout) (n m k : NetState) (i j : ℕ) → GoesRounds l n m i → GoesRound l m k j → GoesRounds l n k (i + j)
 rounds-on l n m k i j g h = record {

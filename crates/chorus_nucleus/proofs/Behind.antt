@@ -1,6 +1,6 @@
 -- What a pass has seen has clocks up to its caller's last one, and what it makes stands behind it.
 -- v and u are what the pass knows before and after, w and x its caller before and after, p the place, s its state.
-use Rattle.std.proofs.Common.{ℕ, ◌≡◌, ◌<◌, ◌≤◌, ◌+◌, max, true, false, cond, List, [], ◌∷◌, ◌++◌, map, reverse, refl, sym, ◌∙◌, ap, subst, append_assoc, append-nil, arith}
+use Rattle.std.proofs.Common.{ℕ, ◌≡◌, ◌<◌, ◌≤◌, ◌+◌, max, true, false, cond, List, [], ◌∷◌, ◌++◌, map, reverse, sym, ◌∙◌, ap, subst, append_assoc, append-nil, arith}
 use mathlib.Core.Logic.{dite}
 use native.Mathlib.Decide.{ℕ_discrete}
 use Rattle.std.specs.List.{All}
@@ -25,7 +25,7 @@ use Rattle.chorus_turn.specs.Knowing.{seen_at, after_turn, after_retirement, not
 use Rattle.chorus_turn.proofs.Fronts.{put_here, put_elsewhere, starts_itself, starts_more, starts_same, list_at-longer}
 use Rattle.law_history.specs.declared.turns.Input.{Input}
 use Rattle.law_history.specs.Histories.{Takes}
-use Rattle.law_history.specs.PlaceTurns.{turn, machine}
+use Rattle.law_history.specs.PlaceTurns.{machine}
 use Rattle.law_history.specs.Entries.{ClocksFall}
 use Rattle.law_history.proofs.Falling.{falls-last, turn-falls, turn-last, journals-fall, falls-rest, falls-above}
 use Rattle.law_closing.specs.Places.{PlaceNote}
@@ -40,9 +40,6 @@ max-same n = omega arith
 
 max-up : (a b : ℕ) → max a (max a b) ≡ max a b
 max-up a b = omega arith
-
-max-two : (a b c : ℕ) → max (max a b) c ≡ max a (max (max a b) c)
-max-two a b c = omega arith
 
 with-last : (w : Seated) (a b : ℕ) → a ≡ b → record w { last = a } ≡ record w { last = b }
 with-last w a b e = ap (λ n. record w { last = n }) e

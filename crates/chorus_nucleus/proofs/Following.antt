@@ -1,6 +1,6 @@
 -- The merge of what was closed stands in order and has the journals of the places, so what a pass made follows in it all that the
 -- pass had seen.
-use Rattle.std.proofs.Common.{ℕ, zero, suc, ◌≡◌, ◌<◌, ◌+◌, ◌-◌, true, List, map, reverse, Some, slice_get, refl, sym, ◌∙◌, ap, subst, arith}
+use Rattle.std.proofs.Common.{ℕ, zero, suc, ◌≡◌, ◌<◌, ◌+◌, ◌-◌, true, List, map, reverse, Some, slice_get, sym, ◌∙◌, ap, subst, arith}
 use Rattle.std.specs.List.{filter}
 use Rattle.std.proofs.lemmas.List.{reverse-reverse}
 use Rattle.chorus_ui.specs.declared.layout.Layout.{Layout}
@@ -26,7 +26,7 @@ use Rattle.law_closing.specs.Places.{PlaceNote}
 use Rattle.law_closing.specs.Behind.{AllFollow, IsMergeOf}
 use Rattle.law_closing.proofs.Behind.{merge-follows}
 use Rattle.chorus_net.specs.declared.closed.Closed.{Closed}
-use Rattle.chorus_net.specs.Closing.{IsLeft, closed_journals, merge_of, past_of}
+use Rattle.chorus_net.specs.Closing.{IsLeft, closed_journals, merge_of}
 use Rattle.chorus_nucleus.specs.Closing.{ClosesAs}
 
 pub numbers-get : {X : Type 0} (f : ℕ → X) (m a i : ℕ) → i < m → slice_get (map f (numbers m a)) i ≡ Some (f (a + i))

@@ -1,5 +1,5 @@
 -- The commands that a pass gave: one more at each call that answers, and none more at any other.
-use Rattle.std.proofs.Common.{ℕ, ◌≡◌, List, [], ◌∷◌, ◌++◌, refl, ◌∙◌, ap, inl, inr}
+use Rattle.std.proofs.Common.{ℕ, ◌≡◌, List, [], ◌∷◌, ◌++◌, refl, ◌∙◌, ap}
 use Rattle.std.proofs.lemmas.List.{append-nil}
 use Rattle.chorus_ui.specs.declared.layout.Layout.{Layout}
 use Rattle.chorus_entry.specs.declared.command.Command.{Command}
@@ -17,10 +17,8 @@ use Rattle.law_closing.specs.Remarks.{turns_in, remarked}
 use Rattle.law_closing.specs.Growth.{noted}
 use Rattle.law_closing.specs.Places.{PlaceNote}
 use Rattle.law_closing.proofs.Growth.{turns_in-append, turns_in-placed, turns_at-remarked}
-use Rattle.chorus_serve.specs.declared.served.Pump.{Pump}
-use Rattle.chorus_serve.specs.declared.served.Pump.TheVariants as pumps
 use Rattle.chorus_nucleus.specs.SiteTurns.Turning.{TakesTurn, Looks}
-use Rattle.chorus_nucleus.specs.Calls.{gave, Serves}
+use Rattle.chorus_nucleus.specs.Calls.{gave}
 
 given-with : (i : Input Command Packet) (all bs cs : List Command) → all ≡ bs ++ cs → with_command i all ≡ with_command i bs ++ cs
 given-with (Input.Command c) all bs cs e = ap (λ ds. c ∷ ds) e

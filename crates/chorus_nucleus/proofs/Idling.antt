@@ -88,9 +88,6 @@ module _ (l : Layout) (m : ℕ) (s : PlaceState) (v : Knowledge PlaceNote) (call
     worked_is = λ lt. sum-counts worked more_worked worked_now (got_seen m v) (got_count (turns_at (m + 1) looks.found)) r.worked_is q (ws lt) lt ∙ sym (total-more (λ k xs. got_count (turns_at k xs)));
   }
 
-pub round-none : (v : Knowledge PlaceNote) → IsRound 0 0 0 v
-round-none v = record { seen = λ p is. absurd (let low = is.0 in let high = is.1 in omega (arith, low, high)); put_is = λ lt. refl; worked_is = λ lt. refl }
-
 pub round-even : (l : Layout) (put worked : ℕ) (v : Knowledge PlaceNote) → IsRound (places l) put worked v → put ≡ worked → put < 2 ^ 64 - 1 → IsEven l v
 round-even l put worked v r same lt = record {
   seen = r.seen;

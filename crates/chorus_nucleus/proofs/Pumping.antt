@@ -1,11 +1,10 @@
 -- A pump, put together from what its turn did.
-use Rattle.std.proofs.Common.{ℕ, ◌≡◌, ◌≢◌, ◌++◌, Bool, cond, List, length, Option, Some, None, Result, Ok, Err, IfOk, IfErr, OnOk, OnErr, IfSome, refl, sym, ◌∙◌, ap, subst, inl, inr}
+use Rattle.std.proofs.Common.{ℕ, ◌≡◌, ◌≢◌, ◌++◌, Bool, cond, List, length, Option, None, Result, Ok, Err, IfOk, IfErr, OnOk, IfSome, refl, sym, ◌∙◌, ap, subst, inl, inr}
 use Rattle.std.specs.Global.{Vec}
 use Rattle.std.specs.declared.alloc.AllocError.{AllocError}
 use Rattle.std.specs.declared.snapshot.Snapshot.{Snapshot}
 use Rattle.std.proofs.lemmas.Bool.{eq-eqb, ne_eqb}
 use Rattle.chorus_ui.specs.Layout.{places, creation_place}
-use Rattle.chorus_entry.specs.declared.entry.Entry.{Entry}
 use Rattle.chorus_entry.specs.declared.packet.Packet.{Packet}
 use Rattle.chorus_calls.specs.Callers.{Seated}
 use Rattle.chorus_place.specs.Calls.{Place}
@@ -13,12 +12,9 @@ use Rattle.chorus_place.specs.declared.fault.PlaceFault.{PlaceFault}
 use Rattle.chorus_serve.specs.declared.served.Pump.{Pump}
 use Rattle.chorus_ruled_ends.specs.Ruled.{Ruled}
 use Rattle.chorus_board.specs.declared.reader.BoardReader.{BoardReader}
-use Rattle.chorus_board.specs.Boards.{entries_published}
 use Rattle.chorus_turn.specs.declared.turns.Busy.{Busy}
 use Rattle.chorus_turn.specs.declared.pass.Pass as turner
-use Rattle.chorus_turn.specs.declared.knowledge.Remarked.{Remarked}
 use Rattle.chorus_turn.specs.declared.knowledge.Knowledge.{Knowledge}
-use Rattle.chorus_turn.specs.Lists.{list_at}
 use Rattle.chorus_turn.specs.Journals.{entries_of}
 use Rattle.chorus_turn.specs.Knowing.{IsSamePass, seen_at}
 use Rattle.chorus_turn.specs.Passes as turns
@@ -37,7 +33,7 @@ use Rattle.chorus_nucleus.specs.declared.sight.Sight.{Sight}
 use Rattle.chorus_nucleus.specs.declared.fault.CallFault.{CallFault}
 use Rattle.chorus_nucleus.specs.Passes.{AreSites, Reads, AreSpare, IsCallerOf, IsPassOf, row_at, home_of, desk_of, mark_of}
 use Rattle.chorus_nucleus.specs.Calls.{answered, worn_after}
-use Rattle.chorus_nucleus.specs.Reading.{HasPublished, FollowsAt}
+use Rattle.chorus_nucleus.specs.Reading.{FollowsAt}
 use Rattle.chorus_nucleus.specs.Pumping.{pumped, PumpDone, IsPump}
 use Rattle.chorus_nucleus.proofs.Called.{Turned, ServeDone, serve-done}
 use Rattle.chorus_nucleus.proofs.Joined.{sight-kept}

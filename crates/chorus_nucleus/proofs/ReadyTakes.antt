@@ -1,6 +1,6 @@
 -- A take that is made only where it is answered by a message, put together from what its turn did.
 -- l is the layout, p the place, q the port, v and u are what the pass knows before and after, w and x its caller before and after.
-use Rattle.std.proofs.Common.{ℕ, ◌≡◌, true, List, Option, Some, None, Result, Ok, Err, IfOk, IfErr, OnErr, refl, sym, ◌∙◌, ap, subst}
+use Rattle.std.proofs.Common.{ℕ, ◌≡◌, true, List, Option, Some, None, Result, Ok, Err, IfOk, IfErr, OnErr, sym, ◌∙◌, subst}
 use Rattle.std.specs.declared.snapshot.Snapshot.{Snapshot}
 use Rattle.chorus_ui.specs.declared.layout.Layout.{Layout}
 use Rattle.chorus_ui.specs.declared.ui.Ui.{Ui}

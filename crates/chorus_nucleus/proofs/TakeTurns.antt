@@ -1,6 +1,6 @@
 -- What a call with a Take did, as a take.
 -- n is a nucleus, l a layout, p the number of a place, q a port, v and u are what a pass knows before and after, w and x its caller.
-use Rattle.std.proofs.Common.{ℕ, ◌≡◌, ◌+◌, ◌<◌, ◌≤◌, arith, true, List, [], ◌∷◌, ◌++◌, Option, Some, None, Result, Ok, Err, refl, sym, ◌∙◌, ap, subst, inl, inr}
+use Rattle.std.proofs.Common.{ℕ, ◌≡◌, ◌+◌, ◌<◌, ◌≤◌, arith, true, List, [], ◌∷◌, ◌++◌, Option, Some, None, Result, Ok, Err, refl, sym, ◌∙◌, ap, subst}
 use mathlib.Core.Logic.{dite}
 use native.Mathlib.Decide.{ℕ_discrete}
 use Rattle.std.specs.List.{All}
@@ -10,7 +10,6 @@ use Rattle.chorus_ui.specs.declared.ui.Ui.{Ui}
 use Rattle.chorus_ui.specs.declared.layout.Layout.{Layout}
 use Rattle.chorus_ui.specs.Layout.{has_place}
 use Rattle.chorus_entry.specs.declared.entry.Entry.{Entry}
-use Rattle.chorus_entry.specs.declared.act.Act.{Act}
 use Rattle.chorus_entry.specs.declared.command.Command.{Command}
 use Rattle.chorus_entry.specs.declared.message.Message.{Message}
 use Rattle.chorus_entry.specs.Places.{place_for}
@@ -43,7 +42,6 @@ use Rattle.chorus_nucleus.specs.SiteTurns.Turning.{HasSeenMore}
 use Rattle.chorus_nucleus.proofs.Behind.{more-up}
 use Rattle.chorus_nucleus.specs.Passes.{layout_of, known, caller_of, worn_by}
 use Rattle.chorus_nucleus.specs.Calls.{Because, Performs, IsCall, place_of, worn_after}
-use Rattle.chorus_nucleus.specs.declared.taken_message.TakenMessage.{TakenMessage}
 use Rattle.chorus_nucleus.specs.declared.taken_message.TakeAnswer.{TakeAnswer}
 use Rattle.chorus_nucleus.specs.declared.taken_message.TakeAnswer.TheVariants as answers
 use Rattle.chorus_nucleus.specs.Taking.{acts_made, Appends, Gives, HasOrigin, SeesMore, KeepsPass, IsByTakes, TakesOn, IsTake}

@@ -1,6 +1,6 @@
 -- How passes begin, come and go.
 -- n is a nucleus, l a layout, q the number of a place.
-use Rattle.std.specs.Prelude.{ℕ, ◌≡◌, ◌≢◌, ◌≤◌, ◌+◌, ◌==◌, nat_lt, Bool, true, ◌&&◌, ◌||◌, cond, List, [], ◌++◌, Option, Some, None, is_some, option_to_list, IfSome, Result, IsErrOf, ◌↔◌, false}
+use Rattle.std.specs.Prelude.{ℕ, ◌≡◌, ◌≢◌, ◌≤◌, ◌+◌, ◌==◌, nat_lt, Bool, true, ◌&&◌, ◌||◌, cond, [], ◌++◌, Option, Some, None, is_some, option_to_list, IfSome, Result, IsErrOf, ◌↔◌, false}
 use Rattle.std.specs.List.{All}
 use Rattle.std.specs.declared.alloc.AllocError.{AllocError}
 use Rattle.std.specs.Option.{option_or}

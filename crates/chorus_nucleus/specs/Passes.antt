@@ -8,7 +8,6 @@ use Rattle.std.specs.List.{All}
 use Rattle.chorus_ui.specs.declared.layout.Layout.{Layout}
 use Rattle.chorus_ui.specs.Layout.{IsLayout, places, has_actor, creation_place}
 use Rattle.chorus_ui.specs.NameKind.{is_actor}
-use Rattle.chorus_entry.specs.declared.entry.Entry.{Entry}
 use Rattle.chorus_entry.specs.declared.packet.Packet.{Packet}
 use Rattle.chorus_link.specs.declared.name.LinkName.{LinkName}
 use Rattle.chorus_ends.specs.declared.ends.EndsName.{EndsName}
@@ -18,12 +17,8 @@ use Rattle.chorus_board.specs.Boards as boards
 use Rattle.chorus_calls.specs.Callers.{Seated}
 use Rattle.chorus_place.specs.GivenPosts.{GaveWithinPosts}
 use Rattle.chorus_serve.specs.Desks.{DeskState, seen}
-use Rattle.chorus_turn.specs.declared.knowledge.Remarked.{Remarked}
-use Rattle.chorus_turn.specs.declared.knowledge.Placed.{Placed}
 use Rattle.chorus_turn.specs.declared.knowledge.Note.{Note}
 use Rattle.chorus_turn.specs.declared.knowledge.Knowledge.{Knowledge}
-use Rattle.chorus_turn.specs.Lists.{StartsWith, list_at}
-use Rattle.chorus_turn.specs.Knowing.{seen_at}
 use Rattle.chorus_turn.specs.Passes as turns
 use Rattle.chorus_turn.specs.Calls.{IsMarkAt}
 use Rattle.law_history.specs.PlaceTurns.{machine}

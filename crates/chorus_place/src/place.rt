@@ -218,7 +218,7 @@ impl Place {
         Ok(())
     }
 
-    /// Takes out the first packet that waits to go to the place; None exactly where none waits, and then nothing changes. The packet
+    /// Takes out the first packet that waits to go to the place; None exactly where none waits, and then no packet moves. The packet
     /// is within its ranges, so it has a frame.
     #[tactic(auto, using(crate::proofs::Bounded::out_at_rest, crate::proofs::Bounded::taken_within))]
     pub fn out(&mut self, to: u16) -> Option<Packet>

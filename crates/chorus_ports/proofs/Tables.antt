@@ -20,9 +20,6 @@ pub none_of : {A : Type 0} (o : Option A) → is_some o ≡ false → o ≡ None
 none_of None e = refl
 none_of (Some a) e = cc
 
-pub not_some : {A : Type 0} (o : Option A) → o ≡ None → is_some o ≡ false
-not_some o e = ap is_some e
-
 -- the record that is found has the name
 pub find-name : (q : Ui) (rs : List PortRecord) (r : PortRecord) → find q rs ≡ Some r → r.ui ≡ q
 find-name q [] r h = cc

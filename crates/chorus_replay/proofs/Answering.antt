@@ -1,18 +1,14 @@
 -- Whether a script may go on, as it is read from the tables, the scripts and the counts.
 -- c is a scenario, k the number of a script and of its seat, q a port, a an actor.
-use Rattle.std.proofs.Common.{ℕ, suc, ◌≡◌, ◌<◌, ◌+◌, ◌-◌, ◌==◌, ◌&&◌, ◌||◌, Bool, true, false, not, cond, List, [], ◌∷◌, length, get_or, Option, Some, None, slice_get, refl, sym, ◌∙◌, ap, subst, arith}
+use Rattle.std.proofs.Common.{ℕ, ◌≡◌, ◌<◌, ◌+◌, ◌-◌, ◌==◌, ◌&&◌, ◌||◌, true, List, [], ◌∷◌, length, get_or, Option, Some, None, slice_get, refl, sym, ◌∙◌, ap, subst, arith}
 use Rattle.std.specs.Prelude.{slice_set}
-use Rattle.std.proofs.lemmas.Bool.{false≢true, ne_eqb}
+use Rattle.std.proofs.lemmas.Bool.{false≢true}
 use Rattle.std.proofs.lemmas.Option.{get_or_from_slice_get, slice_get_read, slice_get_within}
 use Rattle.chorus_ui.specs.declared.ui.Ui.{Ui}
-use Rattle.chorus_ui.specs.Name.{same_ui}
 use Rattle.chorus_entry.specs.declared.command.Command.{Command}
-use Rattle.chorus_entry.specs.declared.message.Message.{Message}
-use Rattle.chorus_entry.specs.declared.record.PortRecord.{PortRecord}
 use Rattle.chorus_entry.specs.Places.{place_for}
-use Rattle.chorus_ports.specs.declared.taking.Taken.TheVariants as takes
 use Rattle.chorus_ports.specs.Table.{find}
-use Rattle.chorus_ports.specs.Taking.{first_at, taken, taken_from}
+use Rattle.chorus_ports.specs.Taking.{taken}
 use Rattle.chorus_calls.specs.Callers.{Seated}
 use Rattle.chorus_place.specs.Calls.{Place}
 use Rattle.law_machine.specs.Own.{take_act}
@@ -24,21 +20,12 @@ use Rattle.chorus_net.proofs.Events.{place-found}
 use Rattle.chorus_scene.specs.declared.limits.TheConstants.{COMMANDS_LIMIT}
 use Rattle.chorus_scene.specs.Scene.{Scene, Script, is_await}
 use Rattle.chorus_scene.specs.Grammar.{script_at}
-use Rattle.chorus_scene.specs.Limits.{Keeps, is_take, waits_keep}
-use Rattle.chorus_scene.proofs.Waits.{awaits_take}
+use Rattle.chorus_scene.specs.Limits.{Keeps}
 use Rattle.chorus_replay.specs.Waiting.{IsScript, done_by, may_by, may_go_on, next_command, one_more}
-use Rattle.chorus_replay.proofs.May.{all-get, few-scripts}
+use Rattle.chorus_replay.proofs.May.{few-scripts}
 use Rattle.chorus_replay.proofs.Standings.{script-at}
 
 -- A take, by the record of its port.
-
-pub receives : (q a : Ui) (r : PortRecord) → is_taken (take_act q (taken_from a r)) ≡ same_ui r.actor a && not (length r.pending == 0)
-receives q a r = by (same_ui r.actor a) r.pending
-  where
-    by : (b : Bool) (ms : List Message) → is_taken (take_act q (cond b (first_at r.first ms) takes.NotHere)) ≡ b && not (length ms == 0)
-    by true [] = refl
-    by true (m ∷ ms) = sym (ap not (ne_eqb (suc (length ms)) 0 (λ e. omega (arith, e))))
-    by false ms = refl
 
 -- and by the place where it is carried out
 pub at-place : (s : SitesState) (k i : ℕ) (q : Ui) (x : Seated) (p : Place) → IsSites s → may_happen (Act k (Command.Take q)) (net s) ≡ true → slice_get s.callers k ≡ Some x → place_for s.layout x.actor (Command.Take q) ≡ 1 + i → i < length s.places → p ≡ get_or s.places i p
@@ -76,34 +63,7 @@ goes-next c done k n h = by (next_command c done k) refl
     by None e = absurd (false≢true (sym (ap (λ o. may_by (is_await (script_at k c.scripts).waits (done_by done k)) k o n) e) ∙ h))
     by (Some command) e = (command, e)
 
--- one without a next command may not
-pub none-next : (c : Scene) (done : List ℕ) (k : ℕ) (n : NetState) → next_command c done k ≡ None → false ≡ may_go_on c done k n
-none-next c done k n e = sym (ap (λ o. may_by (is_await (script_at k c.scripts).waits (done_by done k)) k o n) e)
-
--- and what its next command is tells it
-pub goes-as : (c : Scene) (done : List ℕ) (k : ℕ) (n : NetState) (waits : Bool) (command : Command) → next_command c done k ≡ Some command → waits ≡ is_await (script_at k c.scripts).waits (done_by done k)
-    → not waits || would_take k command n ≡ may_go_on c done k n
-goes-as c done k n waits command e w =
-    sym (ap (λ o. may_by (is_await (script_at k c.scripts).waits (done_by done k)) k o n) e ∙ ap (λ b. not b || would_take k command n) (sym w))
-
--- an await is a take
-pub no-wait : (c : Scene) → Keeps c → (done : List ℕ) (k : ℕ) → IsScript c k → (command : Command) → next_command c done k ≡ Some command → is_take (Some command) ≡ false → is_await (script_at k c.scripts).waits (done_by done k) ≡ false
-no-wait c keeps done k of command e other = by (is_await (script_at k c.scripts).waits (done_by done k)) refl
-  where
-    by : (b : Bool) → is_await (script_at k c.scripts).waits (done_by done k) ≡ b → b ≡ false
-    by false w = refl
-    by true w =
-        let at = script-at c k of in
-        let take = awaits_take c.version (script_at k c.scripts) (done_by done k) (all-get (waits_keep c.version) c.scripts at.place (script_at k c.scripts) keeps.waits at.found) w in
-        absurd (false≢true (sym other ∙ ap is_take (sym e) ∙ take))
-
 -- A script by its place.
-
-pub behind-place : (c : Scene) (i : ℕ) → i < length c.scripts → IsScript c (i + 1)
-behind-place c i lt = (omega arith, omega (arith, lt))
-
-pub at-place-of : (c : Scene) (k : ℕ) → IsScript c k → k - 1 < length c.scripts
-at-place-of c k of = (let low = of.0 in let high = of.1 in omega (arith, low, high))
 
 -- the caller that is read is that of the seat
 pub caller-read : (cs items : List Seated) (k : ℕ) (x : Seated) → items ≡ cs → k < length cs → x ≡ get_or items k x → slice_get cs k ≡ Some x

@@ -23,7 +23,6 @@ use Rattle.chorus_scene.specs.Scene.{Scene, Script}
 use Rattle.chorus_scene.specs.Grammar.{script_at, is_step}
 use Rattle.chorus_report.specs.Setup.{setup_commands}
 use Rattle.chorus_replay.specs.Order.{in_setup, entering, step_tasks, in_schedule, then_drain, left_from, opening_order, order, tasks}
-use Rattle.chorus_report.specs.Headline.{callers_of}
 
 -- The actors of the callers after events.
 
@@ -222,9 +221,6 @@ comers c = ap reverse (actors-reverse (order c)) ∙ reverse-reverse (actors_by 
 -- the callers that come by tasks are these
 abbrev pub AreComers : List Task → (ℕ → Option Ui) → Type 0
 AreComers ts callers = (k : ℕ) → slice_get (reverse (actors_by ts)) k ≡ callers k
-
-pub are-comers : (c : Scene) → AreComers (tasks c) (callers_of c)
-are-comers c k = ap (λ z. slice_get z k) (comers c)
 
 pub get-front : {X : Type 0} (xs ys : List X) (k : ℕ) (a : X) → slice_get xs k ≡ Some a → slice_get (xs ++ ys) k ≡ Some a
 get-front [] ys k a h = absurd (cc)

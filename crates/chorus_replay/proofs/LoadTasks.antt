@@ -1,11 +1,9 @@
 -- A load: its tasks come by its callers, give each seat its commands, and may be done one after the other.
 use Rattle.std.proofs.Common.{ℕ, zero, suc, ◌≡◌, ◌≢◌, ◌<◌, ◌≤◌, ◌+◌, ◌-◌, ◌/◌, ◌%◌, ◌^◌, ◌==◌, nat_le, nat_lt, Bool, true, false, not, ◌&&◌, cond, List, [], ◌∷◌, ◌++◌, length, map, take, drop, reverse, decimal, Some, slice_get, refl, sym, ◌∙◌, ap, ap₂, subst, append_assoc, append-nil, inl, inr, arith}
 use Rattle.std.specs.List.{list_all}
-use Rattle.std.specs.Option.{option_map}
 use Rattle.std.proofs.lemmas.Bool.{and_parts, and_from, le-leb, eq-eqb, ne_eqb}
 use Rattle.std.proofs.lemmas.Fmt.{length-decimal-le}
 use Rattle.std.proofs.lemmas.List.{reverse-append, reverse-reverse, length-reverse}
-use Rattle.std.proofs.lemmas.Option.{slice_get-map}
 use Rattle.chorus_ui.specs.declared.ui.Ui.{Ui}
 use Rattle.chorus_ui.specs.declared.limits.TheConstants.{BODY_LIMIT, SEATS_LIMIT}
 use Rattle.chorus_ui.specs.Layout.{IsLayout, has_actor, has_place}
@@ -18,7 +16,7 @@ use Rattle.law_network.specs.Tasks.{Task, Do, Drain, commands_in}
 use Rattle.chorus_net.specs.declared.closed.Closed.{Closed}
 use Rattle.chorus_show.specs.declared.status.Status.{Status}
 use Rattle.chorus_replay.specs.declared.draws.Draw.{Draw}
-use Rattle.chorus_replay.specs.declared.draws.TheConstants.{LOAD_SITES, SETUP_COMMANDS}
+use Rattle.chorus_replay.specs.declared.draws.TheConstants.{LOAD_SITES}
 use Rattle.chorus_replay.specs.declared.loading.TheConstants.{LOAD_LIMIT}
 use Rattle.chorus_merge.specs.Merge.{merged}
 use Rattle.chorus_show.specs.Summary.{summary_text}
@@ -27,9 +25,9 @@ use Rattle.chorus_replay.specs.Ordered.{IsOrdered}
 use Rattle.chorus_replay.specs.Order.{after_setup}
 use Rattle.chorus_replay.specs.Performing.{AreLeft}
 use Rattle.chorus_draw.specs.Draws.{next_state, number_of}
-use Rattle.chorus_replay.specs.Load.{load_layout, load_actor, load_port, load_group, site_by, drawn_command, drawn, draws, make_port, join_port, load_setup, enter_site, load_entering, turn_tasks, turns, to_draw, to_enter, load_order, load_tasks, load_callers, drawn_for, load_commands, Loads}
+use Rattle.chorus_replay.specs.Load.{load_layout, load_actor, load_port, load_group, site_by, drawn_command, drawn, draws, load_setup, enter_site, load_entering, turn_tasks, turns, to_draw, to_enter, load_order, load_tasks, load_callers, drawn_for, load_commands, Loads}
 use Rattle.chorus_replay.proofs.Given.{commands-append, commands-reverse, own-acts, other-acts}
-use Rattle.chorus_replay.proofs.Callers.{AreComers, actors_by, actors-append, actors-reverse, acts-none, get-front}
+use Rattle.chorus_replay.proofs.Callers.{AreComers, actors_by, actors-append, actors-reverse, acts-none}
 use Rattle.chorus_replay.proofs.Needs.{HasAll, NeedsOn, not-false, all-of, on-append, on-still, may-all}
 use Rattle.chorus_replay.proofs.Plays.{AreOf, plays}
 use Rattle.chorus_replay.proofs.Stepping.{CanBe}
@@ -48,43 +46,6 @@ get-numbers (suc m) p (suc i) h = get-numbers m (p + 1) i (omega (arith, h)) ∙
   where
     next : (p i : ℕ) → p + 1 + i ≡ p + suc i
     next p i = omega arith
-
-get-site : {X : Type 0} (f : ℕ → X) (i : ℕ) → i < LOAD_SITES → slice_get (map f (numbers LOAD_SITES 1)) i ≡ Some (f (i + 1))
-get-site f i h =
-    slice_get-map f (numbers LOAD_SITES 1) i ∙ ap (option_map f) (get-numbers LOAD_SITES 1 i h) ∙ ap (λ n. Some (f n)) (turned i)
-  where
-    turned : (i : ℕ) → 1 + i ≡ i + 1
-    turned i = omega arith
-
-get-behind : {X : Type 0} (xs ys : List X) (i j : ℕ) → i ≡ length xs + j → slice_get (xs ++ ys) i ≡ slice_get ys j
-get-behind [] ys i j h = ap (slice_get ys) (h ∙ none j)
-  where
-    none : (j : ℕ) → 0 + j ≡ j
-    none j = omega arith
-get-behind (x ∷ xs) ys zero j h = absurd (omega (arith, h))
-get-behind (x ∷ xs) ys (suc i) j h = get-behind xs ys i j (omega (arith, h))
-
-pub setup-make : (i : ℕ) → i < LOAD_SITES → slice_get load_setup i ≡ Some (make_port (i + 1))
-setup-make i h =
-    get-front (map make_port (numbers LOAD_SITES 1)) (Command.GroupMake 1 ∷ map join_port (numbers LOAD_SITES 1)) i (make_port (i + 1)) (get-site make_port i h)
-
-pub setup-group : (i : ℕ) → i ≡ LOAD_SITES → slice_get load_setup i ≡ Some (Command.GroupMake 1)
-setup-group i h = ap (slice_get load_setup) h ∙ refl
-
-pub setup-join : (i : ℕ) → LOAD_SITES < i → i < SETUP_COMMANDS → slice_get load_setup i ≡ Some (join_port (i - LOAD_SITES))
-setup-join i low high =
-    get-behind (map make_port (numbers LOAD_SITES 1)) (Command.GroupMake 1 ∷ map join_port (numbers LOAD_SITES 1)) i (suc (i - LOAD_SITES - 1)) (split i low)
-    ∙ get-site join_port (i - LOAD_SITES - 1) (below i high low)
-    ∙ ap (λ n. Some (join_port n)) (up i low)
-  where
-    split : (i : ℕ) → LOAD_SITES < i → i ≡ LOAD_SITES + suc (i - LOAD_SITES - 1)
-    split i low = omega (arith, low)
-
-    below : (i : ℕ) → i < SETUP_COMMANDS → LOAD_SITES < i → i - LOAD_SITES - 1 < LOAD_SITES
-    below i high low = omega (arith, high, low)
-
-    up : (i : ℕ) → LOAD_SITES < i → i - LOAD_SITES - 1 + 1 ≡ i - LOAD_SITES
-    up i low = omega (arith, low)
 
 -- The callers.
 

@@ -77,7 +77,7 @@ fn perform_tasks(
 
 /// Performs the scenario's setup by seat 0, on sites that were just started: the first part of a replay.
 ///
-/// A clock that is worn, or want of memory, ends it with the commands before done.
+/// A clock that is worn ends it with the commands before done; of want of memory nothing is said.
 pub fn set_up(sites: &mut Sites, scenario: &Scenario) -> Result<(), PlaceFault>
     requires start { net sites.old ≡ just_started scenario.now.layout }
     requires keeps { Keeps scenario.now }

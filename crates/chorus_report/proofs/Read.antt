@@ -2,7 +2,7 @@
 use Rattle.std.proofs.Common.{◌≡◌, ℕ, ◌+◌, ◌<◌, ◌≤◌, Option, Some, None, IfSome, Result, Err, List, ◌++◌, length, take, take_all, sym, ◌∙◌, ap, subst₂, arith}
 use Rattle.std.proofs.Math.Seq.{take-append_seam}
 use Rattle.std.specs.Io.KnownBytes.{Consumes}
-use Rattle.chorus_io.specs.Bytes.{IsReadWhole, IsReadWithin, IsTooLong}
+use Rattle.chorus_io.specs.Bytes.{IsReadWithin}
 use Rattle.chorus_ui.specs.declared.layout.Layout.{Layout}
 use Rattle.chorus_scene.specs.declared.limits.TheConstants.{TEXT_LIMIT}
 use Rattle.chorus_scene.specs.Scene.{Scene}
@@ -43,9 +43,3 @@ long-given-as l told left given line reason consumed long one two =
 
 pub within-most : (old new : Option (List ℕ)) → (bytes : List ℕ) × IsReadWithin TEXT_LIMIT bytes old new → ReadsNoFurther old new
 within-most old new (bytes, read) = let few = read.1 in (bytes, (read.0, omega (arith, few)))
-
-pub long-most : (old new : Option (List ℕ)) → (bytes : List ℕ) × IsTooLong TEXT_LIMIT bytes old new → ReadsNoFurther old new
-long-most old new (bytes, read) = let few = read.1 in (bytes, (read.0, omega (arith, few)))
-
-pub whole-most : (old new : Option (List ℕ)) (bytes : List ℕ) → IsReadWhole TEXT_LIMIT bytes old new → ReadsNoFurther old new
-whole-most old new bytes read = let few = read.2 in (bytes, (read.0, omega (arith, few)))

@@ -24,6 +24,3 @@ before_end front text is =
 pub on_ok : {T E : Type 0} (r : Result T E) (new whole old : List ℕ) (Q : Type 0) → new ≡ cond (is_ok r) whole old → (new ≡ whole → Q) → OnOk r Q
 on_ok (Ok v) new whole old Q h f = f h
 on_ok (Err e) new whole old Q h f = tt
-
-pub end_within : (front text : List ℕ) → text ≡ front ++ codes "end\n" → length text ≡ length front + 4
-end_within front text is = ap length is ∙ length-append front (codes "end\n")

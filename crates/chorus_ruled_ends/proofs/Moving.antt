@@ -1,7 +1,7 @@
 -- The ends of a place, when one of them is used.
 -- r are the ends before, place is the place of the end that is used, slot is that end afterwards.
-use Rattle.std.proofs.Common.{ℕ, ◌≡◌, ◌<◌, ◌≤◌, ◌==◌, ◌&&◌, Bool, true, false, cond, List, [], ◌∷◌, ◌++◌, length, set, Option, Some, None, is_some, refl, sym, ◌∙◌, ap, subst, arith}
-use Rattle.std.proofs.lemmas.Bool.{eqb-true, and_parts}
+use Rattle.std.proofs.Common.{ℕ, ◌≡◌, ◌<◌, ◌≤◌, ◌==◌, ◌&&◌, Bool, true, false, cond, List, [], ◌∷◌, ◌++◌, length, set, Option, None, is_some, refl, sym, ◌∙◌, ap, subst, arith}
+use Rattle.std.proofs.lemmas.Bool.{eqb-true}
 use Rattle.std.proofs.lemmas.List.{get_or-set_same}
 use Rattle.chorus_entry.specs.declared.packet.Packet.{Packet}
 use Rattle.chorus_link.specs.declared.ends.SendEnd.{SendEnd}
@@ -9,26 +9,14 @@ use Rattle.chorus_link.specs.declared.ends.RecvEnd.{RecvEnd}
 use Rattle.chorus_link.specs.declared.name.LinkName.{LinkName}
 use Rattle.chorus_ends.specs.declared.ends.EndsName.{EndsName}
 use Rattle.chorus_io.specs.Count.{Rose}
-use Rattle.chorus_ends.specs.Links.{Links, Counts, Sends, Receives, MovesNothing}
+use Rattle.chorus_ends.specs.Links.{Counts, Sends, Receives, MovesNothing}
 use Rattle.chorus_ruled_ends.specs.Ruled.{Ruled, end_to, end_from, sent_by, received_by, fulls_by, empties_by, name_to, name_from, links}
-use Rattle.chorus_ruled_ends.proofs.Lists.{shown, shown-kept, all-kept, most-kept, within}
+use Rattle.chorus_ruled_ends.proofs.Lists.{shown, shown-kept, all-kept, most-kept}
 
 abbrev named : List (Option LinkName) → List (Option LinkName) → EndsName
 named outs intos = record { out = outs; into = intos }
 
 -- the ends reach the place
-
-pub has-out : (r : Ruled) (place : ℕ) → (links r).reaches place ≡ true → is_some (end_to place r) ≡ true
-has-out r place h = (and_parts (is_some (end_to place r)) (is_some (end_from place r)) h).0
-
-pub has-into : (r : Ruled) (place : ℕ) → (links r).reaches place ≡ true → is_some (end_from place r) ≡ true
-has-into r place h = (and_parts (is_some (end_to place r)) (is_some (end_from place r)) h).1
-
-pub out-within : (r : Ruled) (place : ℕ) → (links r).reaches place ≡ true → place < length r.out
-out-within r place h = within r.out place (has-out r place h)
-
-pub into-within : (r : Ruled) (place : ℕ) → (links r).reaches place ≡ true → place < length r.into
-into-within r place h = within r.into place (has-into r place h)
 
 -- the end to the place was used
 

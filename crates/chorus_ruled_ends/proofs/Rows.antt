@@ -1,6 +1,6 @@
 -- The links from one place, one after the other, and the places one after the other.
 -- a is the place, n the next one that it is linked to; base, old and new are the ends before, then before and after a step.
-use Rattle.std.proofs.Common.{ℕ, ◌≡◌, ◌≢◌, ◌+◌, ◌<◌, ◌≤◌, ◌⊎◌, List, length, refl, sym, ◌∙◌, inl, inr, subst, arith}
+use Rattle.std.proofs.Common.{ℕ, ◌≡◌, ◌≢◌, ◌+◌, ◌<◌, ◌≤◌, ◌⊎◌, List, length, sym, ◌∙◌, inl, inr, subst, arith}
 use Rattle.std.proofs.lemmas.Bool.{cases_lt}
 use Rattle.chorus_ruled_ends.specs.Ruled.{Ruled}
 use Rattle.chorus_ruled_ends.specs.Linked.{out_of, into_of, HasLink, LinksOne, LinksBelow, AreLinkedBelow, AreLinked}
@@ -17,9 +17,6 @@ link-kept a b old new out into h = record {
   fulls = h.fulls;
   empties = h.empties;
 }
-
-pub below-none : (a : ℕ) (all : List Ruled) → LinksBelow a 1 all all
-below-none a all = record { has = λ b b1 lt ne. absurd (omega (arith, b1, lt)); out = λ p q p1 ne. refl; into = λ p q q1 ne. refl }
 
 pub below-more : (a n : ℕ) (base old new : List Ruled) → 1 ≤ a → LinksBelow a n base old → LinksOne a n old new → LinksBelow a (n + 1) base new
 below-more a n base old new a1 h s = record {
@@ -40,9 +37,6 @@ below-more a n base old new a1 h s = record {
 
 pub below-all : (a n most : ℕ) (old new : List Ruled) → most < n → LinksBelow a n old new → LinksBelow a (most + 1) old new
 below-all a n most old new le h = record { has = λ b b1 lt ne. h.has b b1 (omega (arith, le, lt)) ne; out = h.out; into = h.into }
-
-pub rows-none : (places : ℕ) (all : List Ruled) → AreLinkedBelow 1 places all
-rows-none places all = record { linked = λ a b a1 lt b1 bm ne. absurd (omega (arith, a1, lt)) }
 
 pub rows-more : (n places : ℕ) (old new : List Ruled) → AreLinkedBelow n places old → LinksBelow n (places + 1) old new → AreLinkedBelow (n + 1) places new
 rows-more n places old new h s = record { linked = λ a b a1 lt b1 bm ne. by a b a1 lt b1 bm ne (cases_lt a n) }

@@ -1,16 +1,15 @@
 -- The ends of all places, when one place gets an end.
 -- a and b are the places that are linked, p and q are any places, all are the ends of each place.
-use Rattle.std.proofs.Common.{ℕ, ◌≡◌, ◌≢◌, ◌+◌, ◌-◌, ◌<◌, ◌≤◌, ◌==◌, ◌⊎◌, inl, inr, ◌++◌, Bool, true, false, cond, List, [], ◌∷◌, length, get_or, set, Option, Some, None, refl, sym, ◌∙◌, ap, subst, arith}
-use Rattle.std.proofs.Math.Seq.{get_or-append_seam}
-use Rattle.std.proofs.lemmas.Bool.{eqb-true, eqb-false, cases_lt}
-use Rattle.std.proofs.lemmas.List.{length-set, length-append, get_or-set_same, get_or-set_other, get_or_append_left, get_or_read}
+use Rattle.std.proofs.Common.{ℕ, ◌≡◌, ◌≢◌, ◌+◌, ◌-◌, ◌<◌, ◌≤◌, ◌==◌, ◌⊎◌, ◌++◌, Bool, true, false, List, [], ◌∷◌, length, get_or, set, Some, None, refl, sym, ◌∙◌, ap, subst, arith}
+use Rattle.std.proofs.lemmas.Bool.{eqb-true, eqb-false}
+use Rattle.std.proofs.lemmas.List.{length-set, get_or-set_same, get_or-set_other, get_or_read}
 use Rattle.chorus_entry.specs.declared.packet.Packet.{Packet}
 use Rattle.chorus_link.specs.declared.ends.SendEnd.{SendEnd}
 use Rattle.chorus_link.specs.declared.ends.RecvEnd.{RecvEnd}
 use Rattle.chorus_link.specs.Ends.{send_link, recv_link, fulls_of, empties_of, room, AreNew}
 use Rattle.chorus_ui.specs.declared.limits.TheConstants.{LINK_LIMIT}
 use Rattle.chorus_ruled_ends.specs.Ruled.{Ruled, end_to, end_from}
-use Rattle.chorus_ruled_ends.specs.Linked.{no_ends, of_place, out_of, into_of, HasLink, AreLinked, AreLinkedBelow, HaveSlots, LinksOne, LinksBelow}
+use Rattle.chorus_ruled_ends.specs.Linked.{no_ends, of_place, out_of, into_of, HaveSlots, LinksOne}
 
 -- the ends of the place a are set
 module _ (all : List Ruled) (a : ℕ) (r : Ruled) (one : 1 ≤ a) (most : a ≤ length all) where
@@ -144,33 +143,3 @@ module _ (a b i j : ℕ) (all : List Ruled) (r x : Ruled) where
   into-step recv ei ej lt is e =
       ap (set all i) (e ∙ ap (λ k. with_into r k recv) ej ∙ ap (λ (q : Ruled). with_into q a recv) (get_or_read all i r (subst (λ k. k < length all) (sym ei) lt) is no_ends))
       ∙ ap (λ k. set all k (with_into (get_or all k no_ends) a recv)) ei
-
-pub both-slots : (places a b : ℕ) (all : List Ruled) (send : SendEnd Packet) (recv : RecvEnd Packet) → HaveSlots (places + 1) places all → 1 ≤ a → a ≤ places → 1 ≤ b → b ≤ places
-    → HaveSlots (places + 1) places (after_into a b recv (after_out a b send all))
-both-slots places a b all send recv slots a1 am b1 bm =
-    into-slots places a b (after_out a b send all) (out-slots places a b all slots a1 am b1 bm send) a1 am b1 bm recv
-
--- a place is not linked with itself
-pub links-none : (a b : ℕ) (all : List Ruled) → a ≡ b → LinksOne a b all all
-links-none a b all e = record { has = λ ne. absurd (ne e); out = λ p q p1 ne. refl; into = λ p q q1 ne. refl }
-
--- one place more
-pub slots-more : (slots n : ℕ) (all : List Ruled) (r : Ruled) → HaveSlots slots n all → length r.out ≡ slots → length r.into ≡ slots → HaveSlots slots (n + 1) (all ++ r ∷ [])
-slots-more slots n all r h out into = record {
-  count = length-append all (r ∷ []) ∙ ap (λ k. k + 1) h.count;
-  out = λ a a1 am. by (λ q. length q.out) h.out out a a1 am;
-  into = λ a a1 am. by (λ q. length q.into) h.into into a a1 am;
-}
-  where
-    by : (field : Ruled → ℕ) → ((a : ℕ) → 1 ≤ a → a ≤ n → field (of_place a all) ≡ slots) → field r ≡ slots → (a : ℕ) → 1 ≤ a → a ≤ n + 1 → field (of_place a (all ++ r ∷ [])) ≡ slots
-    by field old new a a1 am = at (cases_lt n a)
-      where
-        is_last : n < a → a - 1 ≡ length all
-        is_last above = (let c = h.count in omega (arith, c, above, am))
-
-        at : (n < a) ⊎ (a ≤ n) → field (of_place a (all ++ r ∷ [])) ≡ slots
-        at (inl above) = ap field (ap (λ i. get_or (all ++ r ∷ []) i no_ends) (is_last above) ∙ get_or-append_seam all r [] no_ends) ∙ new
-        at (inr below) = ap field (get_or_append_left all (r ∷ []) no_ends (a - 1) (let c = h.count in omega (arith, c, a1, below))) ∙ old a a1 below
-
-pub slots-none : (slots : ℕ) → HaveSlots slots 0 []
-slots-none slots = record { count = refl; out = λ a a1 am. absurd (omega (arith, a1, am)); into = λ a a1 am. absurd (omega (arith, a1, am)) }

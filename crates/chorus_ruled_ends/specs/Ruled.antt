@@ -1,13 +1,11 @@
 -- Ends over ruled links: what they show.
 -- p is a place, a and b are places, r are the ends of a place, all are those of each place, that of place p at p - 1.
-use Rattle.std.specs.Prelude.{ℕ, ◌≡◌, ◌≢◌, ◌+◌, ◌-◌, ◌≤◌, ◌&&◌, Bool, List, [], map, length, Option, Some, None, is_some, slice_index_or}
-use Rattle.chorus_ui.specs.declared.layout.Layout.{Layout}
-use Rattle.chorus_ui.specs.Layout.{places}
+use Rattle.std.specs.Prelude.{ℕ, ◌≡◌, ◌≢◌, ◌+◌, ◌-◌, ◌≤◌, ◌&&◌, List, [], map, Option, Some, None, is_some, slice_index_or}
 use Rattle.chorus_entry.specs.declared.packet.Packet.{Packet}
 use Rattle.chorus_link.specs.declared.ends.SendEnd.{SendEnd}
 use Rattle.chorus_link.specs.declared.ends.RecvEnd.{RecvEnd}
 use Rattle.chorus_link.specs.declared.name.LinkName.{LinkName}
-use Rattle.chorus_link.specs.Ends.{send_name, recv_name, send_link, recv_link, packets_put, packets_got, fulls_of, empties_of, room, AreNew}
+use Rattle.chorus_link.specs.Ends.{send_name, recv_name, packets_put, packets_got, fulls_of, empties_of}
 use Rattle.chorus_ends.specs.declared.ends.EndsName.{EndsName}
 use Rattle.chorus_ends.specs.Links.{Links}
 

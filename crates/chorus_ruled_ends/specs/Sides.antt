@@ -6,7 +6,7 @@ use Rattle.chorus_link.specs.declared.ends.SendEnd.{SendEnd}
 use Rattle.chorus_link.specs.declared.ends.RecvEnd.{RecvEnd}
 use Rattle.chorus_io.specs.Count.{Rose}
 use Rattle.chorus_ends.specs.Links.{Links, Counts, Sends, Receives, MovesNothing}
-use Rattle.chorus_ruled_ends.specs.Ruled.{Ruled, links}
+use Rattle.chorus_ruled_ends.specs.Ruled.{links}
 
 abbrev pub Outs : Type 0
 Outs = List (Option (SendEnd Packet))

@@ -195,10 +195,6 @@ field_joined : (f : List ℕ) (fs : List (List ℕ)) → each_byte is_plain f �
 unfolding each_byte
 field_joined f fs h k = each_append is_plain f (behind fs) h k
 
-no_fields : each_byte is_plain [] ≡ true
-unfolding each_byte
-no_fields = refl
-
 -- a body field that is printed in the one way
 body_text_is : (t b : List ℕ) → body_in t ≡ Some b → body_text b ≡ reprint t
 body_text_is t b h = sym (ap (λ o. body_text (unwrap_or o [])) h)

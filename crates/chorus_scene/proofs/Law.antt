@@ -285,9 +285,6 @@ nothing_printed : (b : Bool) → [] ≡ (if b then last_reprinted [] else [])
 nothing_printed true = refl
 nothing_printed false = refl
 
-no_rest : (n : ℕ) → fields n None ≡ []
-no_rest n = refl
-
 refield : (w : Word) (rest : Option (List ℕ)) → length (fields (cuts w) rest) ≡ wants w → (r : Option (List ℕ)) × (fields (cuts w) r ≡ as_printed w (fields (cuts w) rest))
 refield w None e = (None, nothing_printed (has_body w))
 refield w (Some text) e = let p = by_body (has_body w) (cuts w) text (λ h. e ∙ sym (cuts_one_less w h)) in (Some p.0, p.1)

@@ -1,6 +1,6 @@
 -- What goes out and what comes in, step by step.
 -- p is a place, ls, ms and ns are the packets that wait, by place; k, l and m are what the ends show, one after the other.
-use Rattle.std.proofs.Common.{ℕ, zero, suc, ◌≡◌, ◌≢◌, ◌+◌, ◌-◌, ◌^◌, ◌<◌, ◌≤◌, ◌==◌, Bool, true, false, nat_lt, cond, List, [], ◌∷◌, ◌++◌, length, drop, Option, Some, None, slice_get, map, option_to_list, refl, sym, ◌∙◌, ap, subst, inl, inr, arith, append_assoc}
+use Rattle.std.proofs.Common.{ℕ, zero, suc, ◌≡◌, ◌≢◌, ◌+◌, ◌-◌, ◌^◌, ◌<◌, ◌≤◌, ◌==◌, Bool, true, false, nat_lt, cond, List, [], ◌∷◌, ◌++◌, length, drop, Option, Some, None, slice_get, map, refl, sym, ◌∙◌, ap, subst, inl, inr, arith, append_assoc}
 use Rattle.std.proofs.lemmas.Bool.{eq-eqb, ne_eqb, eqb-true, eqb-false, ltb-true, ltb-false}
 use Rattle.std.specs.Option.{unwrap_or}
 use Rattle.std.proofs.lemmas.List.{append-nil, length-set, get_or-set_same, get_or-set_other}
@@ -12,10 +12,10 @@ use Rattle.law_machine.specs.PlaceState.{PlaceState}
 use Rattle.chorus_place.specs.Calls.{Place, state}
 use Rattle.chorus_place.specs.PlaceTables.Sending.{with_all}
 use Rattle.chorus_io.specs.Count.{Rose}
-use Rattle.chorus_ends.specs.Links.{Links, Counts, Sends, Receives, MovesNothing}
-use Rattle.law_history.specs.Turns.{puts_to, from_place}
+use Rattle.chorus_ends.specs.Links.{Links, Counts, Sends, MovesNothing}
+use Rattle.law_history.specs.Turns.{puts_to}
 use Rattle.law_history.specs.PlaceTurns.{as_sent}
-use Rattle.chorus_serve.specs.Flows.{ComesNext, IsOther, GoesOut, Pushes, KeepsAtFull, Takes}
+use Rattle.chorus_serve.specs.Flows.{ComesNext, IsOther, GoesOut, Pushes, KeepsAtFull}
 
 -- Counts.
 
@@ -91,13 +91,6 @@ one-goes to p x ls k l e s = by (p == to) refl
     by true t = here (eqb-true p to t)
     by false f = there (eqb-false p to f)
 
--- fewer wait then
-pub one-fewer : (to : ℕ) (x : Packet) (ls : List (List Packet)) → slice_get (list_to to ls) 0 ≡ Some x → length (list_to to (without_first to ls)) < length (list_to to ls)
-one-fewer to x ls e =
-    let after = ap length (get_or-set_same ls to (drop 1 (list_to to ls)) [] (waits-some to x ls e)) in
-    let before = ap length (first-is x (list_to to ls) e) in
-    omega (arith, after, before)
-
 -- a packet that is put back
 pub back-again : (to : ℕ) (x : Packet) (ls : List (List Packet)) → slice_get (list_to to ls) 0 ≡ Some x → with_first to x (without_first to ls) ≡ ls
 back-again to x [] e = absurd (cc)
@@ -124,17 +117,6 @@ nothing-to zero ((x ∷ l) ∷ ls) e = absurd (omega (arith, e))
 nothing-to (suc p) (l ∷ ls) e = nothing-to p ls (omega (arith, e))
 
 -- Sending, packet by packet.
-
-pub pushes-self : (q : Place) (k : Links) → Pushes q q k k
-pushes-self q k = record {
-  state = refl;
-  out = λ p. goes-nothing p q.out.lists k k refl;
-  received = λ p. refl;
-  counts = counts-self k;
-  lists = refl;
-  puts = refl;
-  spare = omega arith;
-}
 
 pub pushes-on : (q r s : Place) (k l m : Links) → Pushes q r k l → Pushes r s l m → Pushes q s k m
 pushes-on q r s k l m a b = record {
@@ -218,13 +200,6 @@ full-more to q r s k l m a b before here p o lt = by (p == to) refl
 
 -- What a turn puts waits behind what waited.
 
-eqb-swap : (a b : ℕ) → (a == b) ≡ (b == a)
-eqb-swap a b = by (a == b) refl
-  where
-    by : (c : Bool) → (a == b) ≡ c → (a == b) ≡ (b == a)
-    by true e = e ∙ sym (eq-eqb b a (sym (eqb-true a b e)))
-    by false e = e ∙ sym (ne_eqb b a (λ same. eqb-false a b e (sym same)))
-
 last-at : (p : ℕ) (o : Outgoing) (ls : List (List Packet)) → p < length ls → list_to p (with_last o.to o.packet ls) ≡ list_to p ls ++ puts_to p (as_sent o ∷ [])
 last-at p o ls lt = by (o.to == p) refl
   where
@@ -257,30 +232,6 @@ all-wait p (o ∷ os) ls lt =
     ∙ ap (λ xs. list_to p ls ++ xs) (puts-more p o os)
 
 -- What comes in.
-
-pub takes-missed : (k l : Links) → MovesNothing k l → Counts k l → Takes None k l
-takes-missed k l n c = record {
-  received = λ p. n.received p ∙ sym (append-nil (k.received p));
-  sent = n.sent;
-  counts = c;
-}
-
-pub takes-self : (k : Links) → Takes None k k
-takes-self k = takes-missed k k (record { sent = λ p. refl; received = λ p. refl }) (counts-self k)
-
-pub takes-found : (from : ℕ) (x : Packet) (k l : Links) → Receives from x k l → Counts k l → Takes (Some (from, x)) k l
-takes-found from x k l r c = record { received = λ p. r.received p ∙ ap (λ c. cond c (k.received p ++ x ∷ []) (k.received p)) (eqb-swap p from) ∙ by p (from == p); sent = r.sent; counts = c }
-  where
-    by : (p : ℕ) (b : Bool) → cond b (k.received p ++ x ∷ []) (k.received p) ≡ k.received p ++ cond b (x ∷ []) []
-    by p true = refl
-    by p false = sym (append-nil (k.received p))
-
-pub takes-on : (o : Option (ℕ × Packet)) (k l m : Links) → Takes None k l → Takes o l m → Takes o k m
-takes-on o k l m a b = record {
-  received = λ p. b.received p ∙ ap (λ xs. xs ++ from_place p (option_to_list o)) (a.received p ∙ append-nil (k.received p));
-  sent = λ p. b.sent p ∙ a.sent p;
-  counts = counts-on k l m a.counts b.counts;
-}
 
 -- the same from an earlier moment on
 pub comes-behind : (y : Layout) (number last : ℕ) (o : Option (ℕ × Packet)) (k l m : Links) → Counts k l → Counts l m → ComesNext y number last o l m → ComesNext y number last o k m

@@ -1,22 +1,21 @@
 -- The parts of a call of `serve`, put together.
 -- a, b, c, d and e are the desk before it, when what waited was sent, when a packet is in hand, when it is taken out, and at the
 -- end; w and x are the caller before and after, k is the packet.
-use Rattle.std.proofs.Common.{ℕ, ◌≡◌, ◌+◌, ◌<◌, ◌≤◌, ◌==◌, ◌⊎◌, nat_le, true, ◌&&◌, not, length, map, List, [], ◌∷◌, ◌++◌, Option, Some, None, refl, sym, ◌∙◌, ap, subst, inl, inr, arith, append_assoc, Result, Ok, Err, IfOk, OnOk, OnErr, max}
+use Rattle.std.proofs.Common.{ℕ, ◌≡◌, ◌+◌, ◌<◌, ◌≤◌, ◌==◌, ◌⊎◌, nat_le, true, ◌&&◌, length, map, List, [], ◌∷◌, ◌++◌, Option, Some, None, refl, sym, ◌∙◌, ap, subst, inl, inr, arith, append_assoc, Result, Ok, Err, IfOk, OnOk, OnErr, max}
 use Rattle.std.specs.Prelude.{option_to_list}
-use Rattle.std.proofs.lemmas.Bool.{and_from, and_parts, le-leb, leb-true, eqb-true}
+use Rattle.std.proofs.lemmas.Bool.{and_parts, leb-true}
 use Rattle.std.proofs.lemmas.List.{append-nil, length-replicate}
 use Rattle.chorus_ui.specs.declared.limits.TheConstants.{CLOCK_LIMIT}
 use Rattle.chorus_ui.specs.declared.layout.Layout.{Layout}
 use Rattle.chorus_ui.specs.Layout.{has_place, places}
 use Rattle.chorus_entry.specs.declared.command.Command.{Command}
-use Rattle.chorus_entry.specs.Ranges.{has_ranges}
 use Rattle.place_outbox.specs.Waiting.{list_to, nothing_to}
 use Rattle.chorus_entry.specs.declared.packet.Packet.{Packet}
 use Rattle.chorus_calls.specs.Callers.{Seated}
 use Rattle.law_machine.specs.declared.outgoing.Outgoing.{Outgoing}
 use Rattle.law_machine.specs.PlaceState.{PlaceState, greatest_clock, started}
 use Rattle.law_machine.specs.PlaceMachine.{begun, begun_by, act, work}
-use Rattle.law_machine.specs.Lawful.{is_lawful, is_lawful_cargo}
+use Rattle.law_machine.specs.Lawful.{is_lawful}
 use Rattle.law_machine.proofs.Machine.Stays.{act-stays, work-stays}
 use Rattle.law_machine.specs.declared.reply.Reply.{Reply}
 use Rattle.chorus_place.specs.Calls.{Place, state, Called, WorkedOff, IsWornBack, Stays}
@@ -77,22 +76,6 @@ emptied-more p ls ms ns k l m g le (inl all) =
           g.sent ∙ ap (λ xs. xs ++ g.pushed) all.sent ∙ append_assoc (k.sent p ++ list_to p ls) all.more g.pushed;
     })
 emptied-more p ls ms ns k l m g le (inr rose) = inr (rose-on (k.fulls p) (l.fulls p) (m.fulls p) rose le)
-
--- where only what waited was sent
-pub sent-moved : (a b : DeskState) → SendsOut a b → Moved None [] a b
-sent-moved a b s = record {
-  out = λ p h. s.out p;
-  popped = None;
-  received = λ p. s.received p ∙ sym (append-nil (a.links.received p));
-  hand = ap option_to_list s.hand ∙ sym (append-nil (option_to_list a.hand));
-  next = tt;
-  last = s.last;
-  counted = none-counted a b s.state s.puts s.spare;
-  counts = s.counts;
-}
-
-pub sent-rests : (a b : DeskState) (w : Seated) → SendsOut a b → Rests a b w w
-sent-rests a b w s = record { state = s.state; caller = refl; moved = sent-moved a b s; worked = s.worked }
 
 module _ (a b c : DeskState) (s : SendsOut a b) (t : TakesUp b c) where
   taken-state : state c.place ≡ state a.place
@@ -326,12 +309,6 @@ module _ (a e f : DeskState) (s : SendsOut e f) where
 
 -- Places of a layout.
 
-pub is-place : (l : Layout) (p : ℕ) → 1 ≤ p → p ≤ places l → has_place l p ≡ true
-is-place l p least most = and_from (nat_le 1 p) (nat_le p (places l)) (le-leb 1 p least) (le-leb p (places l) most)
-
-pub place-least : (l : Layout) (p : ℕ) → has_place l p ≡ true → 1 ≤ p
-place-least l p h = leb-true 1 p (and_parts (nat_le 1 p) (nat_le p (places l)) h).0
-
 pub place-most : (l : Layout) (p : ℕ) → has_place l p ≡ true → p ≤ places l
 place-most l p h = leb-true p (places l) (and_parts (nat_le 1 p) (nat_le p (places l)) h).1
 
@@ -406,22 +383,6 @@ performs a e x r w v h same ok = record {
       subst (λ (k : Links). GoesOut p (puts_to p (map as_sent (act x (begun (state a.place) w)).puts)) a.place.out.lists e.place.out.lists a.links k) (sym same)
       (turn-waits a.place e.place a.links (act x (begun (state a.place) w)).puts h ok.ended.waits p here);
 }
-
--- a lawful packet is one by the place that it says it is from
-pub lawful-own : (from : ℕ) (k : Packet) (s : PlaceState) → is_lawful from k s ≡ true → is_lawful k.from k s ≡ true
-lawful-own from k s h = subst (λ n. is_lawful n k s ≡ true) (sym is) h
-  where
-    with_ranges : ((k.from == from) && not (from == s.number) && has_place s.layout from && has_ranges k) ≡ true
-    with_ranges = (and_parts ((k.from == from) && not (from == s.number) && has_place s.layout from && has_ranges k) (is_lawful_cargo k.clock from k.cargo s) h).0
-
-    with_place : ((k.from == from) && not (from == s.number) && has_place s.layout from) ≡ true
-    with_place = (and_parts ((k.from == from) && not (from == s.number) && has_place s.layout from) (has_ranges k) with_ranges).0
-
-    with_other : ((k.from == from) && not (from == s.number)) ≡ true
-    with_other = (and_parts ((k.from == from) && not (from == s.number)) (has_place s.layout from) with_place).0
-
-    is : k.from ≡ from
-    is = eqb-true k.from from (and_parts (k.from == from) (not (from == s.number)) with_other).0
 
 -- The packet in hand.
 

@@ -1,6 +1,6 @@
 -- Sessions come and go.
 -- n is a nucleus, a, b and c are a pass at three moments, k counts those who came, ps are sessions.
-use Rattle.std.proofs.Common.{ℕ, ◌≡◌, ◌+◌, if◌then◌else◌, true, false, List, [], ◌∷◌, ◌++◌, take, length, Ok, slice_index_or, refl, sym, ◌∙◌, ap, subst, inl, inr, arith}
+use Rattle.std.proofs.Common.{ℕ, ◌≡◌, ◌+◌, if◌then◌else◌, true, false, List, [], ◌∷◌, ◌++◌, length, Ok, slice_index_or, sym, ◌∙◌, ap, subst, inl, inr, arith}
 use Rattle.std.proofs.lemmas.Bool.{cases_lt}
 use Rattle.std.proofs.lemmas.List.{append-nil, length-append, get_or_append_left}
 use Rattle.std.proofs.lemmas.List.Elements.{All-nil, All-append}
@@ -101,20 +101,6 @@ came n p a b ps more h drawn all new is =
 pub have-run : (n : Nucleus) (xs ys : List Session) → length ys ≡ length xs → HaveRun n xs ys → AreSessions n ys
 have-run n xs ys same h = record { each = λ i d lt. h.each i d (omega (arith, lt, same)) }
 
-pub not-run : (n : Nucleus) (xs : List Session) → AreSessions n xs → HaveRun n xs xs
-not-run n xs h = record { each = λ i d lt. h.each i d lt }
-
-pub run-then : (n : Nucleus) (xs ys zs : List Session) → length ys ≡ length xs → HaveRun n ys zs → HaveRun n xs zs
-run-then n xs ys zs same h = record { each = λ i d lt. h.each i d (omega (arith, lt, same)) }
-
-take-front : (xs zs : List Session) → take (length xs) (xs ++ zs) ≡ xs
-take-front [] [] = refl
-take-front [] (z ∷ zs) = refl
-take-front (x ∷ xs) zs = ap (λ ys. x ∷ ys) (take-front xs zs)
-
-pub put-back : (k : ℕ) (xs zs : List Session) → k ≡ length xs → take k (xs ++ zs) ≡ xs
-put-back k xs zs is = ap (λ j. take j (xs ++ zs)) is ∙ take-front xs zs
-
 -- They go.
 
 pub sessions-but-last : (n : Nucleus) (ps : List Session) (p : Session) → AreSessions n (ps ++ p ∷ []) → AreSessions n ps × IsSession n p
@@ -180,13 +166,6 @@ went n k p a b hands more r is h all grown =
       subst (AreKept (layout_of n) (known b) (known b).notes) (sym grown) (kept-more n p a b hands r is all),
       sym one,
     )
-
-kept-nothing : (l : Layout) (v : Knowledge PlaceNote) (notes : List (Note PlaceNote)) → length notes ≡ 0 → AreKept l v notes []
-kept-nothing l v [] none = tt
-kept-nothing l v (note ∷ notes) none = absurd (omega (arith, none))
-
-pub kept-none : (l : Layout) (k : ℕ) (a : Pass) (hands : List Hand) → IsKeeper k 0 a → hands ≡ [] → AreKept l (known a) (known a).notes hands
-kept-none l k a hands h none = subst (AreKept l (known a) (known a).notes) (sym none) (kept-nothing l (known a) (known a).notes h.ended_is)
 
 pub all-back : (k : ℕ) (a : Pass) → IsKeeper k k a → HasAllBack a
 all-back k a h = let made = h.drawn_is in let ended = h.ended_is in record { keeper = h.keeper; ended = omega (arith, made, ended); quiet = h.quiet }

@@ -14,9 +14,6 @@ use Rattle.law_closing.specs.Behind.{StandsBefore}
 use Rattle.chorus_sessions.proofs.Lists.{In}
 use Rattle.chorus_sessions.proofs.Received.{keeps, skips, stands-so}
 
-same-seat : (e f : Entry) → e.seat ≡ f.seat → is_by f.seat e ≡ true
-same-seat e f same = grind (arith, same, nat_tests)
-
 module _ (l : Layout) (callers : ℕ → Option Ui) where
   rises : (e : Entry) (past : List Entry) → is_run l callers (e ∷ past) ≡ true → (last_clock (by e.seat past) < e.clock) × (is_run l callers past ≡ true)
   rises e past run =

@@ -4,7 +4,6 @@ use Rattle.std.proofs.Common.{ℕ, Bool, true, false, zero, suc, ◌≡◌, ◌+
 use Rattle.std.proofs.lemmas.List.{append-nil, map-append, reverse-append}
 use Rattle.chorus_ui.specs.declared.ui.Ui.{Ui}
 use Rattle.chorus_calls.specs.Callers.{Seated}
-use Rattle.chorus_turn.specs.declared.knowledge.Note.{Note}
 use Rattle.chorus_turn.specs.declared.knowledge.Knowledge.{Knowledge}
 use Rattle.chorus_turn.specs.Knowing.{note_of}
 use Rattle.law_closing.specs.Places.{PlaceNote}
@@ -18,7 +17,7 @@ use Rattle.chorus_sessions.specs.declared.running.Ending.{Ending}
 use Rattle.chorus_sessions.specs.declared.session.Session.{Session}
 use Rattle.chorus_sessions.specs.declared.setup.NewPort.{NewPort}
 use Rattle.chorus_sessions.specs.Delivering.{IsServed, Pumps, Through}
-use Rattle.chorus_sessions.specs.Sessions.{hand_of, IsKeeper, IsSession}
+use Rattle.chorus_sessions.specs.Sessions.{hand_of, IsSession}
 use Rattle.chorus_sessions.specs.Playing.{ended_by, left_by, making, AreMade, HaveCome, HasPlayed, IsMade, IsNewSession, HaveEnded}
 
 module _ {B : Type 0} where
@@ -148,13 +147,6 @@ pub record HaveGone (all left : List Session) (hands : List Hand) (pass : Pass) 
   pub hands_are : hands ≡ map hand_of (reverse gone)
   pub notes : (known pass).notes ≡ map left_by (reverse gone)
 
-no-notes : (notes : List (Note PlaceNote)) → length notes ≡ 0 → notes ≡ []
-no-notes [] e = refl
-no-notes (m ∷ notes) e = absurd (omega (arith, e))
-
-pub gone-none : (k : ℕ) (all : List Session) (hands : List Hand) (a : Pass) → IsKeeper k 0 a → hands ≡ [] → HaveGone all all hands a
-gone-none k all hands a h none = record { gone = []; whole = sym (append-nil all); hands_are = none; notes = no-notes (known a).notes h.ended_is }
-
 pub gone-more : (n : Nucleus) (all before left : List Session) (s : Session) (hands more : List Hand) (a b : Pass) → HaveGone all before hands a → before ≡ left ++ s ∷ [] → Retires n s.pass a b → IsSession n s → more ≡ hands ++ s.hand ∷ [] → HaveGone all left more b
 gone-more n all before left s hands more a b h pop r is grown = record {
   gone = s ∷ h.gone;
@@ -164,8 +156,3 @@ gone-more n all before left s hands more a b h pop r is grown = record {
       ap (λ (v : Knowledge PlaceNote). v.notes) r.knows ∙ ap (λ ks. (known a).notes ++ note_of (known s.pass) ∷ ks) is.notes
       ∙ ap (λ zs. zs ++ left_by s ∷ []) h.notes ∙ sym (map-append left_by (reverse h.gone) (s ∷ [])) ∙ ap (map left_by) (sym (reverse-append (s ∷ []) h.gone));
 }
-
-pub gone-all : (all left : List Session) (hands : List Hand) (a : Pass) → HaveGone all left hands a → left ≡ [] → (hands ≡ map hand_of (reverse all)) × ((known a).notes ≡ map left_by (reverse all))
-gone-all all left hands a h none =
-    let same : h.gone ≡ all = sym (h.whole ∙ ap (λ zs. zs ++ h.gone) none) in
-    (h.hands_are ∙ ap (λ zs. map hand_of (reverse zs)) same, h.notes ∙ ap (λ zs. map left_by (reverse zs)) same)

@@ -34,7 +34,7 @@ use Rattle.chorus_world.proofs.Seats.CallLemmas.{direct_port}
 use Rattle.chorus_world.proofs.Steps.LegalLemmas.{keeps}
 use Rattle.law_machine.specs.declared.outcome.Outcome.{Outcome}
 use Rattle.law_machine.specs.Outcomes as machine
-use Rattle.law_machine.specs.Outcomes.{said_of, answer_by, answer_for, copies_of, outcome, outcome_of}
+use Rattle.law_machine.specs.Outcomes.{said_of, answer_by, answer_for, outcome, outcome_of}
 use Rattle.law_replies.specs.Outcomes.{Became, Decides, IsTold, TellsEnd}
 use Rattle.law_replies.proofs.Decided.{to-decides, by-parts}
 use Rattle.law_replies.proofs.Posts.{legal-at, stood-post}

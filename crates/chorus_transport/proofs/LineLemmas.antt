@@ -12,9 +12,9 @@ use Rattle.chorus_transport.specs.declared.sender.Acked.{Acked}
 use Rattle.chorus_transport.specs.declared.sender.Acked.TheVariants as acked
 use Rattle.chorus_transport.specs.declared.receiver.Got.{Got}
 use Rattle.chorus_transport.specs.declared.receiver.Got.TheVariants as got
-use Rattle.chorus_transport.specs.Sending.{Sending, next_number, has_room, after_put, emitted, after_ack, moved}
+use Rattle.chorus_transport.specs.Sending.{Sending, next_number, has_room, emitted, moved}
 use Rattle.chorus_transport.specs.Sending as sending
-use Rattle.chorus_transport.specs.Receiving.{Receiving, after_arrival, next_chunk, after_next, ack_of, kept, passed, is_known}
+use Rattle.chorus_transport.specs.Receiving.{Receiving, next_chunk, ack_of, kept, passed}
 use Rattle.chorus_transport.specs.Receiving as receiving
 use Rattle.chorus_transport.specs.Line.{Line, Event, Put, Emit, Arrive, Deliver, Acknowledge, Hear, emits, arrives, delivers, hears, happens, run, opening, line_after, IsPrefixOf}
 use Rattle.chorus_transport.proofs.ListLemmas.{slice_get-append, slice_get-drop, Each, Each-push, Each-weaker, set_cases}

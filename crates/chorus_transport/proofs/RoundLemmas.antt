@@ -11,7 +11,7 @@ use Rattle.chorus_transport.specs.declared.sender.Acked.{Acked}
 use Rattle.chorus_transport.specs.declared.sender.Acked.TheVariants as acked
 use Rattle.chorus_transport.specs.Sending.{Sending, next_number, emitted, after_ack, moved}
 use Rattle.chorus_transport.specs.Sending as sending
-use Rattle.chorus_transport.specs.Receiving.{Receiving, after_arrival, next_chunk, ack_of, kept, passed, is_known}
+use Rattle.chorus_transport.specs.Receiving.{next_chunk, ack_of, kept, passed, is_known}
 use Rattle.chorus_transport.specs.Receiving as receiving
 use Rattle.chorus_transport.specs.Line.{Line, Event, Emit, Arrive, Deliver, Acknowledge, Hear, emits, arrives, delivers, hears, happens, run, line_after}
 use Rattle.chorus_transport.specs.Rounds.{Brought, deliveries, emit_from, after_round, LosesNothing, HasAll}

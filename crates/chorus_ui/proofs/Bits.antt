@@ -1,11 +1,11 @@
 -- The bits of a name, both ways.
-use Rattle.std.proofs.Common.{◌≡◌, ℕ, ◌^◌, ◌<◌, Some, refl, arith, IfSome}
+use Rattle.std.proofs.Common.{◌≡◌, ℕ, ◌^◌, ◌<◌, Some, refl, arith}
 use Rattle.chorus_ui.specs.declared.kind.Kind.{Kind}
 use Rattle.chorus_ui.specs.declared.kind.Kind.TheVariants.{Actor, Port, Group}
 use Rattle.chorus_ui.specs.Kind.{kind_number, kind_with_number}
 use Rattle.chorus_ui.specs.Name.{Name, IsName}
 use Rattle.chorus_ui.specs.Bits.{name_bits, site_bits, kind_bits, number_bits, name_of_bits}
-use Rattle.chorus_ui.proofs.Names.{new_name-IsName, name_of_parts_some}
+use Rattle.chorus_ui.proofs.Names.{new_name-IsName}
 
 kind_number_fits : (k : Kind) → kind_number k < 2 ^ 8
 kind_number_fits Actor = omega arith
@@ -25,6 +25,3 @@ name_of_bits-name_bits u h =
     let k : kind_bits (name_bits u) ≡ kind_number u.kind = omega arith in
     let n : number_bits (name_bits u) ≡ u.number = omega arith in
     rw (s, k, n, kind_with_number-kind_number u.kind) (new_name-IsName u h)
-
-pub name_of_bits_some : (bits : ℕ) → IfSome (name_of_bits bits) IsName
-name_of_bits_some bits = name_of_parts_some (Some (site_bits bits)) (kind_with_number (kind_bits bits)) (Some (number_bits bits))

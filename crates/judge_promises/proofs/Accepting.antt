@@ -1,5 +1,5 @@
 -- What a port accepted of one seat, by what is read of a legal list.
-use Rattle.std.proofs.Common.{ℕ, zero, suc, ◌≡◌, ◌==◌, ◌+◌, ◌≤◌, ◌<◌, nat_le, nat_lt, max, Bool, true, false, not, ◌&&◌, ◌||◌, ◌⊎◌, cond, List, [], ◌∷◌, ◌++◌, length, Option, Some, None, refl, sym, ◌∙◌, ap, subst, arith, inl, inr}
+use Rattle.std.proofs.Common.{ℕ, zero, suc, ◌≡◌, ◌==◌, ◌+◌, ◌≤◌, ◌<◌, nat_le, max, Bool, true, false, ◌&&◌, ◌||◌, ◌⊎◌, cond, List, [], ◌∷◌, ◌++◌, length, Option, Some, None, refl, sym, ◌∙◌, ap, subst, arith, inl, inr}
 use Rattle.std.specs.List.{list_any, slice_get}
 use Rattle.std.specs.Option.{option_eq}
 use Rattle.std.proofs.lemmas.Bool.{and_parts, eq-eqb, eqb-true, false≢true, leb-true, le-leb, lt-ltb, not_from_false, false_from_ne_true, or_cases, or_left, or_right}
@@ -23,12 +23,12 @@ use Rattle.chorus_world.specs.Clients.{clients_kept, is_already}
 use Rattle.chorus_world.specs.Ports.{PortState, fate, fate_after, is_held_at}
 use Rattle.chorus_world.specs.Posts.{Posted, post_of, tag_of}
 use Rattle.chorus_world.specs.SenderLaws.{route_of}
-use Rattle.chorus_world.specs.Steps.{act_may, is_legal, may_enter, meets, is_due, due, suits}
+use Rattle.chorus_world.specs.Steps.{act_may, is_legal, may_enter, is_due, due}
 use Rattle.chorus_world.specs.Views.{is_on, on, views}
 use Rattle.chorus_world.proofs.Messages.AcceptedLemmas.{accept_waits, accepted_posted, waiting_posted}
 use Rattle.chorus_world.proofs.Messages.PostLemmas.{tag_kept}
 use Rattle.chorus_world.proofs.Messages.DueLemmas.{enters}
-use Rattle.chorus_world.proofs.Ports.LineLemmas.{held_at, none_some}
+use Rattle.chorus_world.proofs.Ports.LineLemmas.{none_some}
 use Rattle.chorus_world.proofs.Ports.PortLaws.{accepted_grows}
 use Rattle.chorus_world.proofs.Seats.RequestLaws.{requests_once}
 use Rattle.chorus_world.proofs.Seats.SenderLaws.{keeps_sender_order, route_stays}

@@ -1,6 +1,6 @@
 -- Each legal list keeps the promises.
-use Rattle.std.proofs.Common.{ℕ, zero, suc, ◌≡◌, ◌≢◌, ◌==◌, ◌+◌, ◌-◌, ◌<◌, ◌≤◌, nat_le, nat_lt, Bool, true, false, not, ◌&&◌, ◌||◌, ◌⊎◌, cond, List, [], ◌∷◌, length, find, Option, Some, None, is_none, is_some, refl, sym, ◌∙◌, ap, subst, arith, inl, inr}
-use Rattle.std.specs.List.{filter, slice_get}
+use Rattle.std.proofs.Common.{ℕ, ◌≡◌, ◌≢◌, ◌==◌, ◌+◌, ◌-◌, ◌<◌, ◌≤◌, nat_le, nat_lt, Bool, true, false, not, ◌&&◌, ◌||◌, ◌⊎◌, cond, List, [], ◌∷◌, length, find, Option, Some, None, is_none, is_some, refl, sym, ◌∙◌, ap, subst, arith, inl, inr}
+use Rattle.std.specs.List.{slice_get}
 use Rattle.std.specs.Option.{option_or}
 use Rattle.std.proofs.lemmas.Bool.{and_from, and_parts, cases_Bool, eq-eqb, eqb-true, false≢true, false_from_ne_true, lt-ltb, not-true, not_from_false, or_cases}
 use Rattle.chorus_ui.specs.declared.ui.Ui.{Ui}
@@ -8,7 +8,7 @@ use Rattle.chorus_ui.specs.declared.layout.Layout.{Layout}
 use Rattle.chorus_ui.specs.declared.limits.TheConstants.{PENDING_LIMIT}
 use Rattle.chorus_ui.specs.Layout.{IsLayout, has_actor, has_place, has_site, place_at, site_of}
 use Rattle.chorus_ui.specs.Name.{same_ui}
-use Rattle.chorus_ui.proofs.Names.{from_same_ui, same_ui-self}
+use Rattle.chorus_ui.proofs.Names.{same_ui-self}
 use Rattle.chorus_entry.specs.declared.entry.Entry.{Entry}
 use Rattle.chorus_entry.specs.declared.id.MsgId.{MsgId}
 use Rattle.chorus_entry.specs.declared.message.Message.{Message}
@@ -21,7 +21,6 @@ use Rattle.chorus_entry.specs.declared.act.Act.TheVariants.{Make, Post, Accept, 
 use Rattle.chorus_entry.specs.Act.{held_port_of, is_decision, is_verdict, message_of, port_of}
 use Rattle.chorus_entry.specs.Clients.{is_one_too_many}
 use Rattle.chorus_entry.specs.Dest.{group_in}
-use Rattle.chorus_entry.specs.Kinds.{has_kinds}
 use Rattle.chorus_entry.specs.Members.{are_distinct, first_of, is_member, listed}
 use Rattle.chorus_entry.specs.MsgId.{same_id}
 use Rattle.chorus_entry.specs.Same.{are_same}
@@ -32,8 +31,8 @@ use Rattle.chorus_world.specs.Groups.{choice, chooses, in_turn, is_at_site, is_c
 use Rattle.chorus_world.specs.Messages.{verdict}
 use Rattle.chorus_world.specs.Places.{is_first, is_location, last_clock, located}
 use Rattle.chorus_world.specs.Ports.{PortState, are_waiting, fate, fate_after, has_room, is_coming, is_ended_at, is_first_waiting, is_full, is_held_at, is_made, is_next_hop, waiting}
-use Rattle.chorus_world.specs.Posts.{Posted, post_of, posted_in, site_asked, source, tag_of}
-use Rattle.chorus_world.specs.Steps.{act_may, due, is_beyond, is_due, is_due_with, is_early, is_elsewhere, is_full_of_ports, is_home, is_legal, may_enter, meets, next_number, suits}
+use Rattle.chorus_world.specs.Posts.{Posted, posted_in, site_asked, tag_of}
+use Rattle.chorus_world.specs.Steps.{act_may, due, is_beyond, is_due, is_due_with, is_early, is_elsewhere, is_full_of_ports, is_home, is_legal, may_enter, meets, next_number}
 use Rattle.chorus_world.specs.Views.{about, at, by, is_about, is_on, on, views}
 use Rattle.chorus_world.proofs.Groups.MemberLemmas.{AreDistinct, choose_members, chosen_distinct}
 use Rattle.chorus_world.proofs.Messages.AcceptedLemmas.{due_waits}
@@ -42,7 +41,6 @@ use Rattle.chorus_world.proofs.Messages.MessageInvariant.{legal_messages}
 use Rattle.chorus_world.proofs.Messages.PostLemmas.{ChoiceNeeds, asked_facts, choose_needs, no_member_needs, own_source, post_needs}
 use Rattle.chorus_world.proofs.Messages.SendingLemmas.{same_id_sym}
 use Rattle.chorus_world.proofs.Messages.SentFacts.{legal-kinds}
-use Rattle.chorus_world.proofs.Messages.StageLemmas.{IsOpen}
 use Rattle.chorus_world.proofs.Messages.VerdictLemmas.{decision_due, verdict_about, verdict_open}
 use Rattle.chorus_world.proofs.Ports.LineLemmas.{none_some}
 use Rattle.chorus_world.proofs.Messages.MessageSteps.{legal_inv}
@@ -57,7 +55,7 @@ use Rattle.checker_ledger.proofs.SendLemmas.{sent_is}
 use Rattle.judge_rules.specs.About.{is_request}
 use Rattle.judge_rules.specs.Terms.{accepted_so_far, has_space, taken_so_far}
 use Rattle.judge_promises.specs.declared.breach.Breach.{Breach}
-use Rattle.judge_promises.specs.Terms.{departed, goes_to, is_coming_to, is_deleted, is_for, is_in_order, is_new_request, is_old_request, is_read, is_to_group, last_number, posted_to_group, read, waits_first}
+use Rattle.judge_promises.specs.Terms.{departed, goes_to, is_coming_to, is_deleted, is_for, is_read, is_to_group, last_number, posted_to_group, read, waits_first}
 use Rattle.judge_promises.specs.Terms as terms
 use Rattle.judge_promises.specs.Conditions.{are_members, conditions, is_single, timely}
 use Rattle.judge_promises.specs.Breaches.{breach, breach_by, failing, keeps_promises}

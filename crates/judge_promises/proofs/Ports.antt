@@ -1,7 +1,6 @@
 -- What is read of a legal list says of a port what the whole list says, but for the actor that holds it.
-use Rattle.std.proofs.Common.{ℕ, zero, suc, ◌≡◌, ◌==◌, ◌+◌, ◌-◌, nat_lt, Bool, true, false, ◌&&◌, not, cond, List, [], ◌∷◌, ◌++◌, length, drop, Option, Some, None, refl, sym, ◌∙◌, ap, subst}
-use Rattle.std.specs.List.{filter, slice_get}
-use Rattle.std.proofs.lemmas.Bool.{and_parts, eqb-true, false≢true}
+use Rattle.std.proofs.Common.{ℕ, zero, suc, ◌≡◌, ◌==◌, ◌+◌, ◌-◌, Bool, true, false, ◌&&◌, cond, List, [], ◌∷◌, ◌++◌, length, Option, Some, None, refl, sym, ◌∙◌, ap, subst}
+use Rattle.std.proofs.lemmas.Bool.{and_parts, false≢true}
 use Rattle.chorus_ui.specs.declared.ui.Ui.{Ui}
 use Rattle.chorus_ui.specs.declared.layout.Layout.{Layout}
 use Rattle.chorus_entry.specs.declared.entry.Entry.{Entry}
@@ -9,12 +8,8 @@ use Rattle.chorus_entry.specs.declared.id.MsgId.{MsgId}
 use Rattle.chorus_entry.specs.declared.act.Act.{Act}
 use Rattle.chorus_entry.specs.declared.act.Act.TheVariants.{Make, Accept, Take, Rehome, Depart, Arrive, Delete}
 use Rattle.chorus_entry.specs.Act.{held_port_of}
-use Rattle.chorus_entry.specs.Ids.{same_ids}
-use Rattle.chorus_entry.specs.MsgId.{same_id}
-use Rattle.chorus_entry.specs.Same.{are_same}
 use Rattle.chorus_world.specs.declared.spot.Spot.{Spot}
 use Rattle.chorus_world.specs.declared.spot.Spot.TheVariants.{Held, Moving, Ended}
-use Rattle.chorus_world.specs.AcceptedLaws.{accepted_by, accepted_from}
 use Rattle.chorus_world.specs.Ports.{PortState, are_waiting, arrived, changed, fate, fate_after, is_coming, is_held, is_held_at, is_last, is_made, is_moving, is_ended, is_full, is_next_hop, last_of}
 use Rattle.chorus_ui.specs.Layout.{has_actor, site_of}
 use Rattle.chorus_world.specs.Steps.{act_may, is_legal}

@@ -8,7 +8,6 @@ use Rattle.chorus_ui.specs.declared.ui.Ui.{Ui}
 use Rattle.chorus_ui.specs.Name.{same_ui}
 use Rattle.chorus_entry.specs.declared.entry.Entry.{Entry}
 use Rattle.chorus_entry.specs.declared.id.MsgId.{MsgId}
-use Rattle.chorus_entry.specs.declared.dest.Dest.{Dest}
 use Rattle.chorus_entry.specs.declared.tag.Tag.{Tag}
 use Rattle.chorus_entry.specs.declared.tag.Tag.TheVariants.{Request}
 use Rattle.chorus_entry.specs.declared.act.Act.{Act}

@@ -34,15 +34,6 @@ berth_case e port false = refl
 pub berth_grows : (past : List Entry) (e : Entry) (q : Ui) → berth (e ∷ past) q ≡ cond (is_on (Some q) e) (berth_after e.place e.act (berth past q)) (berth past q)
 berth_grows past e q = berth_case e (on q past) (is_on (Some q) e)
 
--- an act that changes no berth
-pub stays : (p : ℕ) (a : Act) (b : Option Berth) → None ≡ moved a → berth_after p a b ≡ b
-stays p (Make q x c) b h = absurd cc
-stays p (Rehome q x) b h = absurd cc
-stays p (Depart q to x hop) b h = absurd cc
-stays p (Arrive q hop) b h = absurd cc
-stays p (Delete q xs) b h = absurd cc
-stays p _ b h = refl
-
 -- and one that changes that of a port
 on-moved : (a : Act) (q : Ui) → Some q ≡ moved a → held_port_of a ≡ Some q
 on-moved (Make r x c) q h = sym h
@@ -51,13 +42,6 @@ on-moved (Depart r to x hop) q h = sym h
 on-moved (Arrive r hop) q h = sym h
 on-moved (Delete r xs) q h = sym h
 on-moved _ q h = absurd cc
-
-same-if : {A : Type 0} → (b : Bool) (x y : A) → x ≡ y → y ≡ cond b x y
-same-if true x y h = sym h
-same-if false x y h = refl
-
-pub none-follows : (e : Entry) (old : Ui → Option Berth) → None ≡ moved e.act → BerthsAfter e old old
-none-follows e old h q = same-if (is_on (Some q) e) (berth_after e.place e.act (old q)) (old q) (stays e.place e.act (old q) h)
 
 -- where no berth comes of it, there was none
 was-none : (p : ℕ) (a : Act) (q : Ui) (b : Option Berth) → Some q ≡ moved a → None ≡ berth_after p a b → b ≡ None

@@ -1,6 +1,6 @@
 -- When a claim is asked, as its text says.
 -- ws, us and vs are words, w is one, s is a short form.
-use Rattle.std.proofs.Common.{ℕ, ◌≡◌, ◌==◌, Bool, true, false, ◌&&◌, ◌||◌, cond, List, [], ◌∷◌, ◌++◌, codes, Option, Some, None, is_some, unwrap_or, refl, sym, ◌∙◌, ap, ap₂, subst}
+use Rattle.std.proofs.Common.{ℕ, ◌≡◌, ◌==◌, Bool, true, false, ◌&&◌, ◌||◌, cond, List, [], ◌∷◌, ◌++◌, codes, Option, Some, None, is_some, unwrap_or, refl, sym, ◌∙◌, ap, subst}
 use Rattle.std.specs.List.{list_any}
 use Rattle.std.specs.Str.{bytes_eq}
 use Rattle.std.proofs.lemmas.Bool.{false≢true}
@@ -8,12 +8,12 @@ use Rattle.chorus_lines.specs.Text.{cut, in_front}
 use Rattle.chorus_claims.specs.Words.{parts, parts_behind, words, behind_throughout, is_throughout, asked_text, long_form, long_call_form, is_arrow, is_before, is_middle, is_mark, is_and, is_or}
 use Rattle.chorus_claims.specs.Pieces.{Piece, Claim}
 use Rattle.chorus_claims.specs.Places.{message_place, port_place, script_place, is_fact}
-use Rattle.chorus_claims.specs.Shapes.{form_of, form_by_mark, form_or, form_in, facts_of, behind_form, facts_in, in_fact, piece_of, behind_middle, claim_in, claim_of_words, asked_by, claim_of}
+use Rattle.chorus_claims.specs.Shapes.{form_of, form_by_mark, form_or, behind_form, facts_in, in_fact, piece_of, behind_middle, claim_in, claim_of_words, asked_by, claim_of}
 use Rattle.chorus_claims.specs.declared.form.Form.{Form}
 use Rattle.chorus_claims.specs.declared.form.Form.TheVariants.{Never, Possible, Always, Implies, Before}
 use Rattle.chorus_claims.proofs.Cuts.{cut_parts}
 use Rattle.chorus_claims.proofs.Lists.{from-bytes}
-use Rattle.law_claims.specs.Short.{at_each_moment, begins_fact, joined, IsOneFact, ThroughoutAsksAtEachMoment, BeforeIsThroughout}
+use Rattle.law_claims.specs.Short.{at_each_moment, begins_fact, joined, ThroughoutAsksAtEachMoment, BeforeIsThroughout}
 
 -- Behind `throughout`.
 

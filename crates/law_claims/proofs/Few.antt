@@ -1,8 +1,8 @@
 -- A claim that is not refused has few facts.
-use Rattle.std.proofs.Common.{ℕ, ◌≡◌, ◌≤◌, ◌<◌, ◌+◌, ◌-◌, nat_lt, Bool, true, false, ◌&&◌, cond, List, [], ◌∷◌, length, Option, Some, None, refl, sym, ◌∙◌, ap, arith}
+use Rattle.std.proofs.Common.{ℕ, ◌≡◌, ◌≤◌, ◌<◌, ◌+◌, ◌-◌, nat_lt, Bool, true, false, ◌&&◌, cond, List, [], ◌∷◌, length, None, refl, ◌∙◌, arith}
 use Rattle.std.proofs.lemmas.Bool.{and_parts}
 use Rattle.std.proofs.lemmas.Bool.Decides.{nat_tests}
-use Rattle.chorus_claims.specs.Words.{words, is_throughout, asked_text, long_form, is_and, is_or, is_middle, is_mark, is_any, is_rest, letter_in}
+use Rattle.chorus_claims.specs.Words.{words, is_throughout, asked_text, long_form, is_middle, is_mark}
 use Rattle.chorus_claims.specs.Pieces.{Claim, Piece}
 use Rattle.chorus_claims.specs.Places.{is_spelled, is_within, is_known}
 use Rattle.chorus_claims.specs.Shapes.{piece_of, in_fact, facts_in, behind_middle, form_in, facts_of, claim_in, asked_by, claim_of, are_few, are_facts, are_within, each_word, first_fault, fault_of}

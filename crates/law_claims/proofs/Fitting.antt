@@ -1,9 +1,9 @@
 -- In which way words fit, as a relation.
 -- ps are the words of a fact, ws those of a line, c and d are choices, k is a letter.
-use Rattle.std.proofs.Common.{ℕ, ◌≡◌, Bool, true, false, not, ◌&&◌, cond, List, [], ◌∷◌, ◌++◌, Option, Some, None, ◌⊎◌, inl, inr, refl, sym, ◌∙◌, ap, subst}
-use Rattle.std.specs.List.{Contains, flat_map, list_all}
+use Rattle.std.proofs.Common.{ℕ, ◌≡◌, Bool, true, false, ◌&&◌, cond, List, [], ◌∷◌, ◌++◌, Option, Some, None, ◌⊎◌, inl, inr, refl, sym, ◌∙◌, ap, subst}
+use Rattle.std.specs.List.{Contains, flat_map}
 use Rattle.std.specs.Str.{bytes_eq}
-use Rattle.chorus_claims.specs.Pieces.{Piece, Word, Any, Rest, Letter, Choice, chosen, with_word, tails, fits, choices, is_none, is_so, is_one_so}
+use Rattle.chorus_claims.specs.Pieces.{Piece, Word, Any, Rest, Letter, Choice, chosen, with_word, tails, fits}
 use Rattle.chorus_claims.proofs.Lists.{none, here, there, which, in-flat, of-flat, from-bytes, same-self}
 
 abbrev pub put : ℕ → List ℕ → List Choice → List Choice

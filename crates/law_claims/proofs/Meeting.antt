@@ -1,11 +1,11 @@
 -- Where a claim is met, by the relation of fitting.
 -- ps are the words of a fact, ws those of a line, c and d are choices, k is a letter.
-use Rattle.std.proofs.Common.{ℕ, ◌≡◌, Bool, true, false, not, ◌&&◌, cond, List, [], ◌∷◌, ◌++◌, Option, Some, None, ◌⊎◌, inl, inr, refl, sym, ◌∙◌, ap, subst}
+use Rattle.std.proofs.Common.{ℕ, ◌≡◌, Bool, true, false, not, ◌&&◌, cond, List, [], ◌∷◌, ◌++◌, Some, None, ◌⊎◌, inl, inr, refl, sym, ◌∙◌, ap, subst}
 use Rattle.std.specs.List.{Contains, flat_map, list_all}
 use Rattle.std.proofs.lemmas.Bool.{false≢true}
-use Rattle.chorus_claims.specs.Pieces.{Piece, Word, Any, Rest, Letter, Choice, chosen, fits, choices, is_none, is_so, is_one_so}
+use Rattle.chorus_claims.specs.Pieces.{Piece, Word, Any, Rest, Letter, Choice, chosen, fits, choices, is_none, is_one_so}
 use Rattle.chorus_claims.proofs.Lists.{none, here, there, which, in-flat, of-flat}
-use Rattle.law_claims.proofs.Fitting.{put, Tail, LetterFits, Fit, of-fits, to-fits}
+use Rattle.law_claims.proofs.Fitting.{put, LetterFits, Fit, of-fits, to-fits}
 
 -- The first word of a line that fits.
 

@@ -1,9 +1,9 @@
 -- The short forms, as they are meant.
-use Rattle.std.proofs.Common.{ℕ, ◌≡◌, Bool, true, false, List, [], ◌∷◌, ◌++◌, codes, Option, Some, None, ◌⊎◌, inl, inr, refl, sym, ◌∙◌, ap, subst}
+use Rattle.std.proofs.Common.{ℕ, ◌≡◌, Bool, true, false, List, [], ◌∷◌, ◌++◌, codes, Some, ◌⊎◌, inl, inr, refl, sym, ◌∙◌, ap, subst}
 use Rattle.std.specs.List.{Contains, list_all}
 use Rattle.chorus_lines.specs.Text.{cut}
 use Rattle.chorus_claims.specs.Words.{words_in, parts, behind_throughout, long_form, long_call_form}
-use Rattle.chorus_claims.specs.Pieces.{Piece, Word, Any, Rest, Letter, Choice, Claim, chosen, choices, is_one_so, meets}
+use Rattle.chorus_claims.specs.Pieces.{Piece, Word, Any, Rest, Letter, Choice, chosen, choices, is_one_so, meets}
 use Rattle.chorus_claims.specs.Shapes.{form_of, claim_of, fault_of}
 use Rattle.chorus_claims.specs.Places.{message_place, port_place, script_place, is_post_act, is_port_act, is_group_act, is_refusal}
 use Rattle.law_claims.specs.Short.{Says, IsTaken, RefusesNothing, IsReceived, Waits, LosesNothing, LeavesNothing, IsReplied, RepliesToRequests, IsLate, IsOutstanding, ShortFormsAreClaims, NothingRefused, NothingLost, NothingLeft, RequestsReplied, NothingLate, CallsSettled}

@@ -12,7 +12,7 @@ use Rattle.chorus_turn.specs.declared.knowledge.Placed.{Placed}
 use Rattle.chorus_turn.specs.declared.knowledge.Note.{Note}
 use Rattle.chorus_turn.specs.declared.knowledge.Knowledge.{Knowledge}
 use Rattle.chorus_turn.specs.Lists.{StartsWith, list_at}
-use Rattle.chorus_turn.specs.Journals.{entries_of, by_seat, at_place}
+use Rattle.chorus_turn.specs.Journals.{by_seat, at_place}
 use Rattle.chorus_turn.specs.Knowing.{Shows, seen_at}
 use Rattle.law_closing.specs.Closing.{IsPlace, Tells}
 use Rattle.law_closing.specs.Behind.{StandsBefore, StandsBehind, AllStandBehind, Follows, AllFollow, AreAtPlaces, IsMergeOf}

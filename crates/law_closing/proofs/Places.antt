@@ -96,11 +96,6 @@ came-in callers (suc n) i (suc q) lt =
     (let e : i + 1 + q ≡ i + suc q = omega arith in
     came-in callers n (i + 1) q (omega (arith, lt)) ∙ ap (λ j. Some (comer_of (callers j))) e)
 
-came-out : (callers : ℕ → Seated) (n i q : ℕ) → n ≤ q → slice_get (came callers n i) q ≡ None
-came-out callers zero i q le = refl
-came-out callers (suc n) i zero le = absurd (omega (arith, le))
-came-out callers (suc n) i (suc q) le = came-out callers n (i + 1) q (omega (arith, le))
-
 -- So the histories of the general law are histories of those who came.
 
 module _ (l : Layout) (shape : IsLayout l) (log : ℕ → List (Remarked PlaceNote)) (v : Knowledge PlaceNote) (end : ℕ → PlaceState) (out hand left : ℕ → ℕ → List Packet) (has : HasSchedule (machine l) (is_new l) (started l) (places l) log v end out hand left) where

@@ -22,7 +22,7 @@ use Rattle.chorus_ports.specs.declared.taking.Taken.{Taken}
 use Rattle.chorus_ports.specs.declared.taking.Taken.TheVariants as takes
 use Rattle.chorus_ports.specs.Table.{find}
 use Rattle.chorus_ports.specs.Taking.{taken}
-use Rattle.law_machine.specs.PlaceState.{PlaceState, Turn, Change, started, packed, say, note, unchanged}
+use Rattle.law_machine.specs.PlaceState.{PlaceState, Turn, started, say, note, unchanged}
 use Rattle.law_machine.specs.PlaceMachine.{begun}
 use Rattle.law_machine.specs.Doing.{does, takes as takes_message, ends, first_message}
 use Rattle.law_machine.specs.Own.{take_act}
@@ -48,9 +48,6 @@ use Rattle.law_crews.specs.Crewed.{AreTakers, IsSettledAt}
 use Rattle.chorus_nucleus.proofs.Posted.{turns-append}
 
 -- A take puts no packet.
-
-said-none : (a : Act) (c : Change) (t : Turn) → c.loads ≡ [] → (say a c t).puts ≡ t.puts
-said-none a c t none = ap (λ loads. t.puts ++ map (packed t) loads) none ∙ append-nil t.puts
 
 ends-none : (tag : Tag) (t : Turn) → (ends tag t).puts ≡ t.puts
 ends-none Tag.Plain t = refl

@@ -186,9 +186,6 @@ module _ (l : Layout) (n k : ℕ) (past : List Entry) (e : Entry) (h : is_legal 
       made-stays-so (λ own. absurd (false≢true (sym off ∙ own)))
       (λ q c m is. absurd (false≢true (sym off ∙ ap is_command_entry is)))
 
-other-number : (a b : ℕ) → (a == b) ≡ true → a ≢ b → ⊥
-other-number a b t apart = apart (eqb-true a b t)
-
 -- the first port of the next site is made
 module _ (l : Layout) (shape : IsLayout l) (n k : ℕ) (high : suc k ≤ l.sites) (a : Ui) (past : List Entry) (e : Entry) (h : is_legal l (e ∷ past) ≡ true) (i : AreMade l n k past) where
   abbrev s : ℕ

@@ -53,15 +53,6 @@ pub has-right : (x : MsgId) (xs ys : List MsgId) → Has x ys → Has x (xs ++ y
 has-right x [] ys h = h
 has-right x (y ∷ xs) ys h = inr (has-right x xs ys h)
 
-pub has-parts : (x : MsgId) (xs ys : List MsgId) → Has x (xs ++ ys) → Has x xs ⊎ Has x ys
-has-parts x [] ys h = inr h
-has-parts x (y ∷ xs) ys (inl e) = inl (inl e)
-has-parts x (y ∷ xs) ys (inr h) =
-    elim (has-parts x xs ys h) [
-      | inl a ↦ inl (inr a)
-      | inr b ↦ inr b
-    ]
-
 -- Posts.
 
 -- what was posted is plain, and goes to a port

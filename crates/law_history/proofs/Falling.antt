@@ -1,5 +1,5 @@
 -- Clocks fall along the journal of a place, which has its newest entry first, and the caller of a turn has then the clock of the last one.
-use Rattle.std.proofs.Common.{ℕ, ◌≡◌, ◌<◌, ◌≤◌, ◌==◌, true, ◌&&◌, not, List, [], ◌∷◌, ◌++◌, refl, sym, subst, arith}
+use Rattle.std.proofs.Common.{ℕ, ◌≡◌, ◌<◌, ◌≤◌, ◌==◌, true, ◌&&◌, not, List, [], ◌∷◌, ◌++◌, refl, subst, arith}
 use Rattle.std.specs.List.{All}
 use Rattle.std.proofs.lemmas.Bool.{and_parts}
 use Rattle.std.proofs.lemmas.List.Elements.{All-nil, All-cons, All-head, All-tail, All-weaker}
@@ -18,7 +18,7 @@ use Rattle.law_history.specs.Turns.{Input}
 use Rattle.law_history.specs.Histories.{Takes}
 use Rattle.law_history.specs.PlaceTurns.{turn, brings_entry, may_come, may_take, machine}
 use Rattle.law_history.specs.Journals.{PlaceTurn}
-use Rattle.law_history.specs.Entries.{ClocksFall, JournalsFall, Climbs, TurnsClimb}
+use Rattle.law_history.specs.Entries.{ClocksFall, JournalsFall, TurnsClimb}
 use Rattle.law_history.proofs.Working.{work-gives}
 
 -- no clock is above the last one

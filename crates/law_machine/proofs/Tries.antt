@@ -30,14 +30,6 @@ pub beyond : (k : Key) (w : Wait) (located : Location) (on : Turn → Turn) (t :
 beyond k w located on t h =
     ap (λ b. tries k w located on (by_tests k w located t.place b (is_on_site t.place.layout w.only located.to) (located.to == t.place.number)) t) h
 
--- it demands another site
-pub off-site : (k : Key) (w : Wait) (located : Location) (on : Turn → Turn) (t : Turn) →
-    is_beyond t.place.layout k.port ≡ false → is_on_site t.place.layout w.only located.to ≡ false →
-    goes k w located on t ≡ on (settles_here k w located.hop (A.Elsewhere located.to located.hop) t)
-off-site k w located on t h site =
-    ap (λ b. tries k w located on (by_tests k w located t.place b (is_on_site t.place.layout w.only located.to) (located.to == t.place.number)) t) h
-    ∙ ap (λ b. tries k w located on (by_tests k w located t.place false b (located.to == t.place.number)) t) site
-
 -- it is decided here
 pub decided : (k : Key) (w : Wait) (located : Location) (on : Turn → Turn) (t : Turn) →
     is_beyond t.place.layout k.port ≡ false → is_on_site t.place.layout w.only located.to ≡ true → (located.to == t.place.number) ≡ true →

@@ -17,7 +17,7 @@ use Rattle.chorus_entry.proofs.Same.{from_same_ids}
 use Rattle.chorus_world.specs.declared.spot.Spot as world
 use Rattle.chorus_world.specs.declared.spot.Spot.TheVariants as spots
 use Rattle.chorus_world.specs.Views.{views, on, is_on}
-use Rattle.chorus_world.specs.Ports.{PortState, fate, fate_after, changed, is_made, is_held, is_moving, is_ended, is_held_at, are_waiting, arrived}
+use Rattle.chorus_world.specs.Ports.{PortState, fate, fate_after, is_made, is_held, is_moving, is_ended, is_held_at, are_waiting, arrived}
 use Rattle.chorus_world.specs.Ports as ports
 use Rattle.chorus_world.specs.Steps.{act_may, is_legal}
 use Rattle.chorus_world.specs.AcceptedLaws.{accepted_from, accepted_by, taken_from, taken_by}

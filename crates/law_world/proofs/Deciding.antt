@@ -183,10 +183,6 @@ ended-not-held p (Some f) h = ap (λ b. b && is_last p f) (by f.spot (and_parts 
     by (Moving a) h = absurd (false≢true h)
     by Ended h = refl
 
-ended-made : (p : ℕ) (o : Option PortState) → is_ended_at p o ≡ true → is_made o ≡ true
-ended-made p None h = absurd (false≢true h)
-ended-made p (Some f) h = refl
-
 -- a port that is on its way to p
 pub record Comes (l : Layout) (q : Ui) (p hop : ℕ) (o : Option PortState) : Type 0 where
   pub held : is_held_at p o ≡ false

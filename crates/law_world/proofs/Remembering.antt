@@ -220,9 +220,6 @@ reached-accepted l past q c n layout h k = by (number_of (clients_kept past (on 
 
 -- Already.
 
-tags-apart : (n : ℕ) (back : Ui) → Plain ≡ Request n back → ⊥
-tags-apart n back h = cc
-
 -- an act by which a port decides, on x for q
 met-cases : (P : Act → Type 0) (x : MsgId) (q : Ui) (a : Act) → message_of a ≡ Some x → port_met a ≡ Some q → ((n : ℕ) → P (Accept x q n)) → ((n : ℕ) → P (Full x q n)) → P (Already x q) → P (ClientsFull x q) → P a
 met-cases P x q (Accept y r n) m o accepts full already clients = subst (λ z. P (Accept z r n)) (sym (some_is y x m)) (subst (λ z. P (Accept x z n)) (sym (some_is r q o)) (accepts n))

@@ -1,5 +1,5 @@
 -- A text of which each byte is written as itself, and an act that is too short to be cut.
-use Rattle.std.proofs.Common.{◌≡◌, ℕ, zero, suc, ◌==◌, ◌<◌, ◌≤◌, nat_le, Bool, true, false, ◌||◌, cond, Option, Some, None, List, [], ◌∷◌, ◌++◌, length, take, drop, codes, refl, ap, ◌∙◌, arith}
+use Rattle.std.proofs.Common.{◌≡◌, ℕ, zero, suc, ◌==◌, ◌<◌, ◌≤◌, Bool, false, ◌||◌, cond, Option, Some, None, List, [], ◌∷◌, ◌++◌, length, take, codes, refl, ap, ◌∙◌, arith}
 use Rattle.std.specs.List.{list_any, position}
 use Rattle.std.proofs.lemmas.Bool.{le-leb, lt-leb, or_parts}
 use Rattle.picture_texts.specs.declared.limits.TheConstants.{SHORT_ACT_LIMIT}

@@ -145,13 +145,6 @@ pub filled-front : (os : List (Option Packet)) (ls : List (List Packet)) (p : �
     → true ≡ is_filled (list_to p (with_fronts os ls))
 filled-front os ls p v e h = ap is_filled (sym (front-list os ls p v e h))
 
--- the first place for which one waits
-pub first-here : (ls : List (List Packet)) (p : ℕ) → is_filled (list_to p ls) ≡ true → first_place (drop p ls) ≡ 0
-first-here [] p h = absurd (false≢true h)
-first-here ([] ∷ ls) zero h = absurd (false≢true h)
-first-here ((x ∷ l) ∷ ls) zero h = refl
-first-here (l ∷ ls) (suc p) h = first-here ls p h
-
 pub first-later : (ls : List (List Packet)) (p : ℕ) → p < length ls → is_filled (list_to p ls) ≡ false → first_place (drop p ls) ≡ first_place (drop (suc p) ls) + 1
 first-later [] p l h = absurd (omega (arith, l))
 first-later ([] ∷ ls) zero l h = refl

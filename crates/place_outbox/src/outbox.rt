@@ -107,7 +107,7 @@ impl Outbox {
         self.pool.put(place, packet);
     }
 
-    /// Takes the first packet for the place out; None exactly where none waits for it, and then nothing changes. Takes no
+    /// Takes the first packet for the place out; None exactly where none waits for it, and then no packet moves. Takes no
     /// memory.
     pub fn take(&mut self, place: u16) -> Option<Packet>
         ensures value { result ≡ slice_get (list_to place self.old.lists) 0 }
@@ -160,8 +160,8 @@ impl Outbox {
         self.back += 1;
     }
 
-    /// Takes a packet out: the first one for the first place that has any. None exactly where none waits, and then nothing
-    /// changes. Takes no memory.
+    /// Takes a packet out: the first one for the first place that has any. None exactly where none waits, and then no packet
+    /// moves. Takes no memory.
     pub fn pop(&mut self) -> Option<Packet>
         ensures value { result ≡ next self.old.lists }
         ensures lists { self.new.lists ≡ after_next self.old.lists }

@@ -15,7 +15,7 @@ use Rattle.std.specs.declared.alloc.AllocError.{AllocError}
 use Rattle.chorus_board.specs.declared.board.Board.{Board}
 use Rattle.chorus_board.specs.Located.{located_after, last_clock_in, told_of, IsPortIn, IsOfPlace}
 use Rattle.chorus_board.specs.Table.{stands_for}
-use Rattle.chorus_board.specs.Boards.{layout_of, place_of, shown, entries_published, entries_begun, LocatesAfter, IsNewBoard}
+use Rattle.chorus_board.specs.Boards.{layout_of, place_of, shown, entries_published, entries_begun, LocatesAfter}
 use Rattle.chorus_board.proofs.Whereabouts.{located_more, nothing_told}
 use Rattle.place_publish.specs.declared.lesson.Lesson.{Lesson}
 use Rattle.place_publish.specs.Lessons.{lesson, told_in}
@@ -43,9 +43,6 @@ pub length-take : (n : ℕ) (ys : List Entry) → n ≤ length ys → n ≡ leng
 length-take zero ys le = refl
 length-take (suc n) [] le = absurd (omega (arith, le))
 length-take (suc n) (y ∷ ys) le = ap suc (length-take n ys (omega (arith, le)))
-
-take-all : (ys : List Entry) → take (length ys) ys ≡ ys
-take-all ys = ap (take (length ys)) (sym (append-nil ys)) ∙ take-append_seam ys []
 
 pub slice-at : {A : Type 0} (J : List A) (i : ℕ) (e : A) → i < length J → e ≡ get_or J i e → slice_get J i ≡ Some e
 slice-at [] i e lt is = absurd (omega (arith, lt))
@@ -79,10 +76,6 @@ pub clock-at : (J : List Entry) (i : ℕ) (e : Entry) → slice_get J i ≡ Some
 unfolding last_clock_in
 clock-at J i e at = sym (ap (λ es. last_clock (reverse es)) (one-more J i e at) ∙ ap last_clock (reverse-append (take i J) (e ∷ [])))
 
--- a beginning as long as the whole is the whole
-pub prefix-whole : (xs ys : List Entry) → IsPrefix xs ys → length xs ≡ length ys → xs ≡ ys
-prefix-whole xs ys h same = sym (prefix-is xs ys h) ∙ ap (λ n. take n ys) same ∙ take-all ys
-
 taken-at : (n : ℕ) (J : List Entry) (i : ℕ) (e : Entry) → slice_get (take n J) i ≡ Some e → slice_get J i ≡ Some e
 taken-at zero J i e at = absurd (cc)
 taken-at (suc n) [] i e at = absurd (cc)
@@ -96,10 +89,6 @@ all-at {p} (x ∷ J) (suc i) e all at = all-at J i e (All-tail (λ (z : Entry). 
 
 pub same-prefix : (xs ys : List Entry) → ys ≡ xs → IsPrefix xs ys
 same-prefix xs ys same = ([], append-nil xs ∙ sym same)
-
--- a beginning of what is not the whole is not the whole
-pub not-whole : (xs ys J : List Entry) (i : ℕ) → IsPrefix xs ys → length ys ≤ i → i < length J → xs ≢ J
-not-whole xs ys J i h low lt is = (let a = prefix-length xs ys h in let b = ap length is in absurd (omega (arith, a, b, low, lt)))
 
 module _ (l : Layout) (p : ℕ) (J : List Entry) where
   -- at the first entry that the board lacks
@@ -250,14 +239,4 @@ published-on l p J news b h = record {
       let most = prefix-length (entries_begun b) J h.begun in
       let lt : i < length J = omega (arith, most, to) in
       ap (λ es. lesson l (reverse es) e) (take-front J news i (omega (arith, lt))) ∙ h.silent i e (at-front J news i e lt at) from to;
-}
-
--- on a new board nothing is published
-pub new-published : (l : Layout) (p : ℕ) (J : List Entry) (b : Board) → IsNewBoard l p b → IsBoardAt l p J b
-new-published l p J b new = record {
-  layout = new.0;
-  of_place = new.1;
-  published = subst (λ es. IsPrefix es J) (sym new.2) (J, refl);
-  begun = subst (λ es. IsPrefix es J) (sym new.3) (J, refl);
-  silent = λ i e at from to. (let none = ap length new.3 in absurd (omega (arith, none, to)));
 }

@@ -86,10 +86,6 @@ emptied w v n e h z = ap (λ ws. record { tried = None; waits = ws }) (by (drop 
     by [] l = refl
     by (w ∷ ws) l = absurd (omega (arith, l))
 
-pub no_value : (o : Option ℕ) → is_some o ≡ false → o ≡ None
-no_value None h = refl
-no_value (Some n) h = cc
-
 -- nothing is under way and nothing waits
 pub nothing : (q : Queue) → q.tried ≡ None → length q.waits ≡ 0 → q ≡ empty_queue
 nothing q t l = ap (λ x. record { tried = x; waits = q.waits }) t ∙ ap (λ ws. record { tried = None; waits = ws }) (by q.waits l)

@@ -1,13 +1,12 @@
 -- A counter keeps its count.
 -- q is the counter, x and y are the ids of messages, past is the merge of the journals, its newest entry first.
-use Rattle.std.proofs.Common.{ℕ, ◌≡◌, ◌<◌, inl, inr, true, List, [], ◌∷◌, ◌++◌, take, drop, Option, Some, None, slice_get, refl, sym, ◌∙◌, ap, subst, append_assoc}
+use Rattle.std.proofs.Common.{ℕ, ◌≡◌, ◌<◌, inr, true, List, [], ◌∷◌, ◌++◌, drop, Option, Some, None, slice_get, refl, sym, ◌∙◌, ap, subst, append_assoc}
 use Rattle.chorus_ui.specs.declared.ui.Ui.{Ui}
 use Rattle.chorus_ui.specs.declared.layout.Layout.{Layout}
 use Rattle.chorus_entry.specs.declared.entry.Entry.{Entry}
 use Rattle.chorus_entry.specs.declared.id.MsgId.{MsgId}
 use Rattle.chorus_entry.specs.declared.act.Act.TheVariants.{Done}
-use Rattle.chorus_entry.specs.declared.tag.Tag.{Tag}
-use Rattle.chorus_entry.specs.declared.tag.Tag.TheVariants.{Plain, Request}
+use Rattle.chorus_entry.specs.declared.tag.Tag.TheVariants.{Request}
 use Rattle.chorus_world.specs.Views.{is_by, by}
 use Rattle.chorus_world.specs.Posts.{Posted, post_of, tag_from, tag_of}
 use Rattle.chorus_world.specs.Seats.{Call, first_call}
@@ -22,7 +21,6 @@ use Rattle.chorus_world.proofs.Seats.RequestLaws.{requests_once, requests_rise}
 use Rattle.chorus_world.proofs.Sorted.Holders.{run_is_legal}
 use Rattle.chorus_world.proofs.Moments.{legal-older}
 use Rattle.law_network.specs.Fates.{WorldHolds}
-use Rattle.law_world.specs.Calls.{HasTaken, IsReplyTo}
 use Rattle.law_world.proofs.Settling.{done-by-reply}
 use Rattle.chorus_turn.specs.Lists.{StartsWith}
 use Rattle.law_history.specs.Runs.{actor_among}
@@ -31,7 +29,7 @@ use Rattle.chorus_net.specs.Closing.{past_of}
 use Rattle.chorus_sessions.specs.Sessions.{IsRunOf}
 use Rattle.chorus_sessions.proofs.Lists.{In, in-seam, in-back, in-filter-back, get-longer}
 use Rattle.chorus_sessions.proofs.Once.{take-drop}
-use Rattle.chorus_sessions.proofs.Received.{in-so, stands-so}
+use Rattle.chorus_sessions.proofs.Received.{stands-so}
 use Rattle.run_counter.specs.Counting.{accepted, counted, HasCalled, IsOfCall, IsCountedOnce, KeepsCount, AlwaysKeepsCount}
 use Rattle.run_counter.proofs.Counts.{stays, counted-by}
 

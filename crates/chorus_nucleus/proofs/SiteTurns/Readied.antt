@@ -1,9 +1,8 @@
 -- A take that is made only where it is answered by a message: what its reply is, and what its job did.
 -- q is a port, t a turn, o a port's record, w and x are the caller before and after, d is the desk before.
-use Rattle.std.proofs.Common.{ℕ, ◌≡◌, ◌<◌, Bool, true, false, if◌then◌else◌, List, [], ◌∷◌, Option, Some, None, Result, Ok, Err, refl, sym, ◌∙◌, ap, subst}
+use Rattle.std.proofs.Common.{ℕ, ◌≡◌, ◌<◌, Bool, true, false, if◌then◌else◌, List, [], ◌∷◌, Option, Some, None, Ok, refl, sym, ◌∙◌, ap, subst}
 use Rattle.std.specs.declared.snapshot.Snapshot.{Snapshot}
 use Rattle.std.proofs.lemmas.Bool.{false≢true}
-use Rattle.chorus_ui.specs.declared.limits.TheConstants.{CLOCK_LIMIT}
 use Rattle.chorus_ui.specs.declared.ui.Ui.{Ui}
 use Rattle.chorus_ui.specs.Name.{same_ui}
 use Rattle.chorus_entry.specs.declared.command.Command.{Command}
@@ -15,7 +14,7 @@ use Rattle.chorus_ports.specs.Table.{find}
 use Rattle.chorus_ports.specs.Taking.{first_at, taken}
 use Rattle.law_awaits.specs.Awaits.{is_taken}
 use Rattle.law_machine.specs.declared.reply.Reply.{Reply}
-use Rattle.law_machine.specs.PlaceState.{PlaceState, Turn, greatest_clock}
+use Rattle.law_machine.specs.PlaceState.{Turn}
 use Rattle.law_machine.specs.PlaceMachine.{begun, act}
 use Rattle.law_machine.specs.Doing.{first_in, first_message}
 use Rattle.law_machine.specs.Own.{own, take_act}

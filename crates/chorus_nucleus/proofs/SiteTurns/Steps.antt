@@ -14,12 +14,11 @@ use Rattle.chorus_entry.specs.Places.{place_for}
 use Rattle.chorus_entry.specs.Ranges.{has_ranges}
 use Rattle.chorus_world.specs.Places.{last_clock}
 use Rattle.chorus_calls.specs.Callers.{Seated, raised}
-use Rattle.place_outbox.specs.Waiting.{list_to}
 use Rattle.law_network.specs.Schedules.{has_number_left, may_give}
 use Rattle.law_machine.specs.PlaceState.{PlaceState, greatest_clock}
 use Rattle.law_machine.specs.PlaceMachine.{begun, act}
 use Rattle.law_machine.specs.Lawful.{is_lawful, is_lawful_cargo}
-use Rattle.chorus_place.specs.Calls.{Place, state, Stays}
+use Rattle.chorus_place.specs.Calls.{Place, state}
 use Rattle.chorus_ends.specs.Links.{Links}
 use Rattle.chorus_serve.specs.declared.hand.Held.{Held}
 use Rattle.chorus_serve.specs.Desks.{DeskState, in_hand}
@@ -66,21 +65,6 @@ flows-act d e w x c r done links hand worked = record {
   puts = done.called.ended.puts;
   worked = worked;
   out = done.out;
-  popped = None;
-  received = λ a. ap (λ (k : Links). k.received a) links ∙ sym (append-nil (d.links.received a));
-  hand = ap option_to_list hand ∙ sym (append-nil (option_to_list d.hand));
-}
-
--- nothing moves
-pub flows-none : (d e : DeskState) → Stays d.place e.place → e.links ≡ d.links → e.hand ≡ d.hand → e.worked ≡ d.worked → Flows None [] d e
-flows-none d e stays links hand worked = record {
-  puts = (let p = stays.puts in omega (arith, p));
-  worked = worked;
-  out = λ b has. record {
-    pushed = [];
-    sent = ap (λ (k : Links). k.sent b) links ∙ sym (append-nil (d.links.sent b));
-    waits = ap (list_to b) stays.waits ∙ sym (append-nil (list_to b d.place.out.lists));
-  };
   popped = None;
   received = λ a. ap (λ (k : Links). k.received a) links ∙ sym (append-nil (d.links.received a));
   hand = ap option_to_list hand ∙ sym (append-nil (option_to_list d.hand));

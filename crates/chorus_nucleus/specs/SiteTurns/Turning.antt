@@ -19,7 +19,7 @@ use Rattle.chorus_place.specs.Calls.{Place, state}
 use Rattle.chorus_turn.specs.declared.knowledge.Remarked.{Remarked}
 use Rattle.chorus_turn.specs.declared.knowledge.Knowledge.{Knowledge}
 use Rattle.chorus_turn.specs.Journals.{entries_of}
-use Rattle.chorus_turn.specs.Knowing.{Shows, seen_at, after_turn}
+use Rattle.chorus_turn.specs.Knowing.{Shows, after_turn}
 use Rattle.law_history.specs.declared.turns.Input.{Input}
 use Rattle.law_history.specs.Histories.{Takes}
 use Rattle.law_history.specs.PlaceTurns.{turn, may_take, machine}

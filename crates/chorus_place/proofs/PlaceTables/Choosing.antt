@@ -10,7 +10,7 @@ use Rattle.chorus_entry.specs.declared.dest.Dest.{Dest}
 use Rattle.chorus_entry.specs.declared.dest.Dest.TheVariants as D
 use Rattle.chorus_entry.specs.declared.message.Message.{Message}
 use Rattle.chorus_entry.specs.Dest.{group_in, port_in}
-use Rattle.chorus_entry.specs.Members.{are_distinct, first_of, listed, round_from}
+use Rattle.chorus_entry.specs.Members.{first_of, listed, round_from}
 use Rattle.chorus_world.specs.Groups as world
 use Rattle.chorus_groups.specs.declared.choice.Choice.{Choice}
 use Rattle.chorus_groups.specs.Groups.{Table, members, rotation}
@@ -95,26 +95,6 @@ all-chosen P (D.OneAt x site) g s e h =
     found : (qs : List Ui) → All P qs → All P (listed (find (is_at_site site s) qs))
     found [] k = All-nil P
     found (q ∷ qs) k = one (is_at_site site s q) q (find (is_at_site site s) qs) (All-head P q qs k) (found qs (All-tail P q qs k))
-
-one-distinct : (o : Option Ui) → are_distinct (listed o) ≡ true
-one-distinct None = refl
-one-distinct (Some q) = refl
-
-one-few : (o : Option Ui) → length (listed o) ≤ 32
-one-few None = omega arith
-one-few (Some q) = omega arith
-
-pub distinct-chosen : (d : Dest) (g : Ui) (s : PlaceState) → group_in d ≡ Some g → are_distinct (world.members g s.journal) ≡ true → are_distinct (choice d s) ≡ true
-distinct-chosen (D.Port q) g s e h = absurd (cc)
-distinct-chosen (D.All x) g s e h = let same : g ≡ x = cc in subst (λ u. are_distinct (world.members u s.journal) ≡ true) same h
-distinct-chosen (D.One x) g s e h = one-distinct (first_of (world.in_turn x s.journal))
-distinct-chosen (D.OneAt x site) g s e h = one-distinct (find (is_at_site site s) (world.in_turn x s.journal))
-
-pub few-chosen : (d : Dest) (g : Ui) (s : PlaceState) → group_in d ≡ Some g → length (world.members g s.journal) ≤ 32 → length (choice d s) ≤ 32
-few-chosen (D.Port q) g s e h = absurd (cc)
-few-chosen (D.All x) g s e h = let same : g ≡ x = cc in subst (λ u. length (world.members u s.journal) ≤ 32) same h
-few-chosen (D.One x) g s e h = one-few (first_of (world.in_turn x s.journal))
-few-chosen (D.OneAt x site) g s e h = one-few (find (is_at_site site s) (world.in_turn x s.journal))
 
 pub no-port : (d : Dest) (m : Message) (c : Seated) → port_in d ≡ None → posted_to d m c ≡ c
 no-port (D.Port q) m c e = absurd (cc)

@@ -33,7 +33,6 @@ use Rattle.law_machine.specs.PlaceState.{packed_at}
 use Rattle.chorus_place.specs.PlaceTables.Plain.{is_plain}
 use Rattle.chorus_place.specs.PlaceTables.Turns.{after_entry, next_entry}
 use Rattle.place_outbox.specs.Waiting.{Waiting}
-use Rattle.chorus_entry.specs.declared.packet.Packet.{Packet}
 use Rattle.chorus_entry.specs.declared.answer.Answer.{Answer}
 use Rattle.chorus_entry.specs.declared.answer.Answer.TheVariants as A
 use Rattle.chorus_entry.specs.declared.id.MsgId.{MsgId}
@@ -380,21 +379,3 @@ kept-ports l p past more a ports now known rows puts k s plain held =
       grouped = grouped-plain past more a k.grouped s plain;
       sent = k.sent;
     }
-
-pub kept-replaced : (l : Layout) (p : ℕ) (past more : List Entry) (a : Act) (ports now : List PortRecord) (known : Known) (rows : List (Key × Row)) (puts : List Outgoing)
-    (q : Ui) (f : PortRecord → PortRecord)
-    → IsKept l p past ports known rows puts → Said past more a → is_plain a ≡ true → now ≡ replace q f ports → Raises f → IsKept l p more now known rows puts
-kept-replaced l p past more a ports now known rows puts q f k s plain e raises =
-    kept-ports l p past more a ports now known rows puts k s plain (subst (AreHeld l p more) (sym e) (held-replace l p past more a ports q f k.held s raises))
-
--- the room alone changed
-pub kept-past : (l : Layout) (p : ℕ) (past more : List Entry) (ports : List PortRecord) (known : Known) (rows : List (Key × Row)) (puts now : List Outgoing)
-    → IsKept l p past ports known rows puts → more ≡ past → now ≡ puts → IsKept l p more ports known rows now
-kept-past l p past more ports known rows puts now k e f =
-    subst (λ x. IsKept l p x ports known rows now) (sym e) (subst (λ y. IsKept l p past ports known rows y) (sym f) k)
-
-pub boxed-out : (l : Layout) (puts now : List Outgoing) (out more : Waiting) → IsBoxed l puts out → now ≡ puts → more.lists ≡ out.lists → out.spare ≤ more.spare → IsBoxed l now more
-boxed-out l puts now out more k e f g =
-    let n = ap (λ (xs : List Outgoing). length xs) e in
-    let room = k.room in
-    record { lists = ap (λ (ls : List (List Packet)). length ls) f ∙ k.lists; room = omega (arith, n, g, room) }

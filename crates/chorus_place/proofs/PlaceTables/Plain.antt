@@ -8,7 +8,7 @@ use Rattle.chorus_entry.specs.declared.act.Act.TheVariants as acts
 use Rattle.chorus_groups.specs.Groups.{Table}
 use Rattle.chorus_world.specs.Places.{ports_after, makes}
 use Rattle.chorus_world.specs.Groups.{members_after}
-use Rattle.place_journal.specs.Counting.{groups_with, MayFollow}
+use Rattle.place_journal.specs.Counting.{MayFollow}
 use Rattle.chorus_place.specs.PlaceTables.Plain.{is_plain}
 
 pub may_follow : (a : Act) (l : Layout) (t : Table) → is_plain a ≡ true → MayFollow l t a
@@ -18,12 +18,6 @@ may_follow (acts.GroupMake g) l t h = absurd (false≢true h)
 may_follow (acts.Join g q) l t h = absurd (false≢true h)
 may_follow (acts.Leave g q) l t h = absurd (false≢true h)
 may_follow _ l t h = tt
-
-pub same_groups : (a : Act) (t : Table) → is_plain a ≡ true → groups_with a t ≡ t
-same_groups (acts.Join g q) t h = absurd (false≢true h)
-same_groups (acts.Leave g q) t h = absurd (false≢true h)
-same_groups (acts.Choose x g qs) t h = absurd (false≢true h)
-same_groups _ t h = refl
 
 pub makes_none : (a : Act) (n : ℕ) → is_plain a ≡ true → ports_after a n ≡ n
 makes_none (acts.Make q b m) n h = absurd (false≢true h)

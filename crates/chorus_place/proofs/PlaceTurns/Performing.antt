@@ -1,5 +1,5 @@
 -- What the machine does on a command at a port, by what its code found.
-use Rattle.std.proofs.Common.{◌≡◌, ℕ, Bool, true, false, not, cond, Option, Some, None, is_some, unwrap_or, IfSome, List, [], ◌∷◌, refl, sym, ◌∙◌, ap}
+use Rattle.std.proofs.Common.{◌≡◌, ℕ, Bool, true, false, not, cond, Option, Some, None, is_some, unwrap_or, List, [], ◌∷◌, refl, sym, ◌∙◌, ap}
 use Rattle.std.proofs.lemmas.Bool.{false≢true}
 use Rattle.chorus_ui.specs.declared.ui.Ui.{Ui}
 use Rattle.chorus_ui.specs.declared.layout.Layout.{Layout}
@@ -23,10 +23,10 @@ use Rattle.chorus_ports.specs.Taking.{taken, taken_from, first_at, passed, after
 use Rattle.law_machine.specs.declared.reply.Reply.{Reply}
 use Rattle.chorus_world.specs.Answer.{make_for}
 use Rattle.law_machine.specs.PlaceState.{PlaceState, Turn, next_clock}
-use Rattle.law_machine.specs.Own.{own, next_port, take_act, held_by, delete_act}
+use Rattle.law_machine.specs.Own.{own, next_port, take_act}
 use Rattle.law_machine.specs.Doing.{does, takes, with_ports, first_message, ends, holding}
 use Rattle.law_machine.specs.Replies.{reply_to, settling, taken_reply}
-use Rattle.chorus_place.specs.PlaceTables.Ports.{takes_from, ids_of}
+use Rattle.chorus_place.specs.PlaceTables.Ports.{takes_from}
 use Rattle.chorus_place.specs.PlaceTables.Commands.{Performed}
 
 -- the command's own act is this one, and it was done
@@ -139,15 +139,3 @@ taking q t mid u pos m settled e f d s =
     first = first-of t.caller.actor (find q t.place.ports) pos m (sym e)
 
 -- Deleting.
-
-pub deleting : (q : Ui) (t : Turn) (xs : List MsgId) → is_some (held_by t.caller.actor (find q t.place.ports)) ≡ true → IfSome (find q t.place.ports) (λ r. xs ≡ ids_of r.pending)
-    → own (Command.Delete q) t ≡ Act.Delete q xs
-deleting q t xs held ids = by (find q t.place.ports) held ids
-  where
-    owned : (b : Bool) (r : PortRecord) → is_some (cond b (Some r) None) ≡ true → xs ≡ ids_of r.pending → delete_act q (cond b (Some r) None) ≡ Act.Delete q xs
-    owned true r h e = ap (Act.Delete q) (sym e)
-    owned false r h e = absurd (false≢true h)
-
-    by : (o : Option PortRecord) → is_some (held_by t.caller.actor o) ≡ true → IfSome o (λ r. xs ≡ ids_of r.pending) → delete_act q (held_by t.caller.actor o) ≡ Act.Delete q xs
-    by None h e = absurd (false≢true h)
-    by (Some r) h e = owned (same_ui r.actor t.caller.actor) r h e

@@ -1,7 +1,6 @@
 -- Facts of legal lists: the posts to a group that a place made are posts of their own; and what a choice changes of what is
 -- asked for.
 use Rattle.std.proofs.Common.{ℕ, ◌≡◌, ◌<◌, ◌⊎◌, inl, inr, ◌==◌, Bool, true, false, ◌||◌, not, cond, List, [], ◌∷◌, ◌++◌, Some, None, refl, sym, ◌∙◌, ap, subst, arith, eq-eqb, append-nil}
-use Rattle.std.specs.List.{filter}
 use Rattle.std.specs.Option.{option_or}
 use Rattle.std.proofs.lemmas.Bool.{eqb-true, false≢true}
 use Rattle.chorus_ui.specs.declared.ui.Ui.{Ui}
@@ -42,26 +41,10 @@ ids-map : (P Q : MsgId → Type 0) → ((x : MsgId) → P x → Q x) → (xs : L
 ids-map P Q f [] h = tt
 ids-map P Q f (x ∷ xs) h = (f x h.0, ids-map P Q f xs h.1)
 
-ids-filter : (P : MsgId → Type 0) (t : MsgId → Bool) (xs : List MsgId) → EachId P xs → EachId P (filter t xs)
-ids-filter P t [] h = tt
-ids-filter P t (x ∷ xs) h = go (t x) (ids-filter P t xs h.1)
-  where
-    go : (b : Bool) → EachId P (filter t xs) → EachId P (cond b (x ∷ filter t xs) (filter t xs))
-    go true k = (h.0, k)
-    go false k = k
-
 -- no id stands twice
 abbrev pub AreApart : List MsgId → Type 0
 AreApart [] = Unit {0}
 AreApart (x ∷ xs) = EachId (λ y. same_id x y ≡ false) xs × AreApart xs
-
-apart-filter : (t : MsgId → Bool) (xs : List MsgId) → AreApart xs → AreApart (filter t xs)
-apart-filter t [] h = tt
-apart-filter t (x ∷ xs) h = go (t x) (apart-filter t xs h.1)
-  where
-    go : (b : Bool) → AreApart (filter t xs) → AreApart (cond b (x ∷ filter t xs) (filter t xs))
-    go true k = (ids-filter (λ y. same_id x y ≡ false) t xs h.0, k)
-    go false k = k
 
 apart-last : (xs : List MsgId) (y : MsgId) → AreApart xs → EachId (λ x. same_id x y ≡ false) xs → AreApart (xs ++ y ∷ [])
 apart-last [] y a b = (tt, tt)

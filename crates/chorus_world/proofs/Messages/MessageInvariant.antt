@@ -198,9 +198,6 @@ pub record Decides (x : MsgId) (q : Ui) (answer : Answer) (p : ℕ) (a : Act) : 
   pub tries : (b : Bool) → tried_after x a b ≡ b
   pub chooses : chooses x a ≡ false
 
-idle_tried : {P : Type 0} (from hop p : ℕ) (q : Ui) → Idle ≡ Tried from q p hop → P
-idle_tried from hop p q h = cc
-
 module _ (l : Layout) (past : List Entry) (c p s : ℕ) (a : Act) (x : MsgId) (q : Ui) (answer : Answer) (d : Decides x q answer p a) (f : MessageFacts x past) where
   on_view : about x (entry c p s a ∷ past) ≡ entry c p s a ∷ about x past
   on_view = keeps (is_about (Some x)) (entry c p s a) past d.about

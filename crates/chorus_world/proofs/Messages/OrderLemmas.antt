@@ -16,22 +16,6 @@ use Rattle.chorus_world.proofs.Messages.SendingLemmas.{prior, cond_none, cond_so
 
 -- Lists of messages.
 
-found_case : (z : MsgId) (m k : Sent) (b : Bool) (ps ms : List Sent) → find_sent z (cond b [] (m ∷ ps)) ≡ Some k → (find_sent z ps ≡ Some k → find_sent z ms ≡ Some k) → find_sent z (m ∷ ms) ≡ Some k
-found_case z m k true ps ms h i = none_some k h
-found_case z m k false ps ms h i =
-    elim (cond_some (same_id m.id z) m k (find_sent z ps) h) [
-      | inl this ↦ ap (λ b. cond b (Some m) (find_sent z ms)) this.0 ∙ ap (λ y. Some y) this.1
-      | inr later ↦ ap (λ b. cond b (Some m) (find_sent z ms)) later.0 ∙ i later.1
-    ]
-
--- what stands before x stands in the list
-pub found_prior : (z x : MsgId) (ms : List Sent) (k : Sent) → find_sent z (prior x ms) ≡ Some k → find_sent z ms ≡ Some k
-found_prior z x [] k h = h
-found_prior z x (m ∷ ms) k h = found_case z m k (same_id m.id x) (prior x ms) ms h (found_prior z x ms k)
-
-here_true : (x : MsgId) (m : Sent) (ps : List Sent) → same_id m.id x ≡ true → cond (same_id m.id x) [] (m ∷ ps) ≡ []
-here_true x m ps e = ap (λ b. cond b [] (m ∷ ps)) e
-
 here_false : (x : MsgId) (m : Sent) (ps : List Sent) → same_id m.id x ≡ false → cond (same_id m.id x) [] (m ∷ ps) ≡ m ∷ ps
 here_false x m ps e = ap (λ b. cond b [] (m ∷ ps)) e
 
@@ -101,14 +85,6 @@ pub or_none_true : (a b : Bool) → a || b ≡ false → (a ≡ false) × (b ≡
 or_none_true true b h = absurd (false≢true (sym h))
 or_none_true false b h = (refl, h)
 
-has_case : (u y : MsgId) (b : Bool) (ps xs : List MsgId) → has_id u (cond b [] (y ∷ ps)) ≡ true → (has_id u ps ≡ true → has_id u xs ≡ true) → has_id u (y ∷ xs) ≡ true
-has_case u y true ps xs h i = absurd (false≢true h)
-has_case u y false ps xs h i =
-    elim (or_cases (same_id y u) (has_id u ps) h) [
-      | inl this ↦ or_left (same_id y u) (has_id u xs) this
-      | inr later ↦ or_right (same_id y u) (has_id u xs) (i later)
-    ]
-
 append_case : (x y : MsgId) (b : Bool) (ps qs : List MsgId) (c : Bool) → b || c ≡ true → (c ≡ true → ps ≡ qs) → cond b [] (y ∷ ps) ≡ cond b [] (y ∷ qs)
 append_case x y true ps qs c h i = refl
 append_case x y false ps qs c h i = ap (λ z. y ∷ z) (i h)
@@ -125,10 +101,6 @@ pub has_append : (x : MsgId) (xs ys : List MsgId) → has_id x (xs ++ ys) ≡ ha
 has_append x [] ys = refl
 has_append x (y ∷ xs) ys =
     ap (λ b. same_id y x || b) (has_append x xs ys) ∙ or_assoc (same_id y x) (has_id x xs) (has_id x ys)
-
-pub has_before : (u x : MsgId) (xs : List MsgId) → has_id u (before x xs) ≡ true → has_id u xs ≡ true
-has_before u x [] h = h
-has_before u x (y ∷ xs) h = has_case u y (same_id y x) (before x xs) xs h (has_before u x xs)
 
 pub before_append : (x : MsgId) (xs ys : List MsgId) → has_id x xs ≡ true → before x (xs ++ ys) ≡ before x xs
 before_append x [] ys h = absurd (false≢true h)

@@ -1,7 +1,7 @@
 -- What a post and a choice of members need, and what they leave: the numbers of a seat's posts, the post of an id, copies.
 use Rattle.std.proofs.Common.{ℕ, ◌≡◌, ◌+◌, ◌<◌, ◌≤◌, ◌==◌, Bool, true, false, ◌&&◌, cond, List, [], ◌∷◌, ◌++◌, length, nat_lt, Option, Some, None, refl, sym, ◌∙◌, ap, subst, arith, inl, inr}
 use Rattle.std.specs.Option.{option_or}
-use Rattle.std.proofs.lemmas.Bool.{and_parts, eqb-true, eq-eqb, false≢true, cases_Bool}
+use Rattle.std.proofs.lemmas.Bool.{and_parts, eqb-true, false≢true, cases_Bool}
 use Rattle.chorus_ui.specs.declared.ui.Ui.{Ui}
 use Rattle.chorus_ui.specs.declared.layout.Layout.{Layout}
 use Rattle.chorus_ui.specs.Name.{same_ui}
@@ -80,9 +80,6 @@ post_needs l past p s m d h =
     let two = and_parts (seat && number) copy three.0 in
     let one = and_parts seat number two.0 in
     record { seat = eqb-true m.id.seat s one.0; number = eqb-true m.id.number (posts v.mine + 1) one.1; copy = eqb-true m.id.copy 0 two.1; stays = three.1 }
-
-by_same : (s : ℕ) (e : Entry) (past : List Entry) → e.seat ≡ s → by s (e ∷ past) ≡ e ∷ by s past
-by_same s e past h = keeps (is_by s) e past (eq-eqb e.seat s h)
 
 posted_other : (x : MsgId) (p : ℕ) (m : Message) (d : Dest) → (m.id ≡ x → ⊥) → posted_by x p (Post m d) ≡ None
 posted_other x p m d n =

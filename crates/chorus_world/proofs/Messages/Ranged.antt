@@ -9,7 +9,7 @@ use Rattle.chorus_ui.specs.Name.{same_ui}
 use Rattle.chorus_ui.proofs.Names.{from_same_ui, same_ui-self}
 use Rattle.chorus_ui.specs.declared.layout.Layout.{Layout}
 use Rattle.chorus_ui.specs.Layout as layout
-use Rattle.chorus_ui.specs.Layout.{IsLayout, has_site, has_place, has_actor, can_make_port, place_at, site_of}
+use Rattle.chorus_ui.specs.Layout.{IsLayout, has_site, has_place, can_make_port}
 use Rattle.chorus_entry.specs.declared.entry.Entry.{Entry}
 use Rattle.chorus_entry.specs.declared.id.MsgId.{MsgId}
 use Rattle.chorus_entry.specs.declared.dest.Dest.TheVariants as D
@@ -189,10 +189,6 @@ found-id x (k ∷ ms) m h = go (same_id k.id x) refl h (found-id x ms m)
     go : (b : Bool) → same_id k.id x ≡ b → cond b (Some k) (find_sent x ms) ≡ Some m → (find_sent x ms ≡ Some m → m.id ≡ x) → m.id ≡ x
     go true e f ih = (let same : k ≡ m = cc in ap (λ (z : Sent). z.id) (sym same) ∙ from_same_id k.id x e)
     go false e f ih = ih f
-
-twice-not : (b : Bool) → not (not b) ≡ true → b ≡ true
-twice-not true k = refl
-twice-not false k = k
 
 not-not : (b : Bool) → not b ≡ false → b ≡ true
 not-not true k = refl

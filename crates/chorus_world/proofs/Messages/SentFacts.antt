@@ -123,21 +123,6 @@ older-found ms ns m h = find_sent_append m.id ms ns ∙ ap (λ o. option_or o (f
 newer-found : (ms ns : List Sent) (m : Sent) → find_sent m.id ms ≡ None → IsFound ns m → IsFound (ms ++ ns) m
 newer-found ms ns m h k = find_sent_append m.id ms ns ∙ (ap (λ o. option_or o (find_sent m.id ns)) h ∙ k)
 
-copies-skip : (x : MsgId) (g : Ui) (n k : ℕ) (qs : List Ui) → k < n → find_sent (record x { copy = k }) (copies x g n qs) ≡ None
-copies-skip x g n k [] lt = refl
-copies-skip x g n k (q ∷ qs) lt =
-    let other : same_id (record x { copy = n }) (record x { copy = k }) ≡ false = differ (n == k) refl in
-    ap (λ b. cond b (Some (record { id = record x { copy = n }; port = q; route = Some g })) (find_sent (record x { copy = k }) (copies x g (n + 1) qs))) other
-    ∙ copies-skip x g (n + 1) k qs (omega (arith, lt))
-  where
-    differ : (b : Bool) → (n == k) ≡ b → same_id (record x { copy = n }) (record x { copy = k }) ≡ false
-    differ true e = absurd (let same : n ≡ k = eqb-true n k e in omega (arith, same, lt))
-    differ false e = (λ i. ((x.seat == x.seat) && (x.number == x.number)) && e i) ∙ and-false ((x.seat == x.seat) && (x.number == x.number))
-      where
-        and-false : (b : Bool) → (b && false) ≡ false
-        and-false true = refl
-        and-false false = refl
-
 copies-found : (x : MsgId) (g : Ui) (n : ℕ) (qs : List Ui) → EachSent (IsFound (copies x g n qs)) (copies x g n qs)
 copies-found x g n [] = tt
 copies-found x g n (q ∷ qs) =

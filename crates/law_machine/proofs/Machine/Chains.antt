@@ -1,5 +1,5 @@
 -- What every entry of the same caller keeps, a turn keeps; and a turn with a command appends an entry.
-use Rattle.std.proofs.Common.{◌<◌, length, Option, Some, None, arith}
+use Rattle.std.proofs.Common.{◌<◌, Option, Some, None}
 use Rattle.chorus_entry.specs.declared.act.Act.{Act}
 use Rattle.chorus_entry.specs.declared.command.Command.{Command}
 use Rattle.chorus_entry.specs.declared.packet.Packet.{Packet}
@@ -35,8 +35,3 @@ module _ (P : Turn → Type 0) (keeps : (a : Act) (c : Change) (t : Turn) → Is
 
   pub work-keeps : (k : Packet) (t : Turn) → P t → P (work k t)
   work-keeps k t h = follows.work-keeps P (λ a x u n s h. keeps a x u s h) k t h
-
--- a turn with a command makes the journal longer
-pub act-appends : (c : Command) (t : Turn) → length t.place.journal < length (act c t).place.journal
-act-appends c t =
-    act-gives (λ u. length t.place.journal < length u.place.journal) (λ a x u s h. omega (arith, h)) c t (λ a x s. omega arith)

@@ -9,9 +9,8 @@ use Rattle.chorus_ui.specs.declared.layout.Layout.{Layout}
 use Rattle.chorus_entry.specs.declared.packet.Packet.{Packet}
 use Rattle.chorus_entry.specs.declared.command.Command.{Command}
 use Rattle.chorus_calls.specs.Callers.{Seated}
-use Rattle.law_machine.specs.declared.outgoing.Outgoing.{Outgoing}
 use Rattle.law_network.specs.Packets.{first_on}
-use Rattle.law_network.specs.Network.{NetState, Event, Enter, Act, Deliver, See, commanded, works_off, delivered, shown, happened, after, opening, schedule, from_one, from_each, place_numbers, round, rounds, one_if, serves, served, drains_on, drained}
+use Rattle.law_network.specs.Network.{NetState, Event, Enter, Act, Deliver, See, commanded, works_off, delivered, shown, happened, after, opening, schedule, from_one, from_each, place_numbers, round, rounds, one_if, serves, served}
 use Rattle.law_network.specs.Schedules.{command_in, commands_of}
 use Rattle.law_network.specs.Tasks.{Task, Do, Drain, IsDrain, CarryOut, commands_in, CarriedOutOnce}
 use Rattle.law_network.proofs.Merge.Parts.{All-reverse}
@@ -116,14 +115,6 @@ pub drain-when-none : (l : Layout) (k m : ℕ) (older : List Event) → (schedul
 drain-when-none l k m older h =
     record { count = m; rounds = refl; dry = (none-left (round l k) k (schedule l (rounds l k m ++ older)) (round-deliveries l k) h).0 }
 
--- and rounds until one serves nothing
-pub drain-when-idle : (l : Layout) (k m : ℕ) (older : List Event) → served (round l k) (schedule l (rounds l k m ++ older)) ≡ 0 → IsDrain l k older (rounds l k (suc m) ++ older)
-drain-when-idle l k m older h =
-    let again : schedule l (rounds l k (suc m) ++ older) ≡ schedule l (rounds l k m ++ older) =
-    ap (schedule l) (append_assoc (round l k) (rounds l k m) older)
-    ∙ after-append (round l k) (rounds l k m ++ older) (opening l) ∙ idle (round l k) (schedule l (rounds l k m ++ older)) h in
-    record { count = suc m; rounds = refl; dry = ap (served (round l k)) again ∙ h }
-
 -- rounds with a stop are so many rounds
 given-layout : (k : ℕ) (c : Command) (o : Option Seated) (n : NetState) → (commanded k c o n).layout ≡ n.layout
 given-layout k c None n = refl
@@ -155,15 +146,6 @@ pub rounds-last : (l : Layout) (k m : ℕ) (n : NetState) → after (rounds l k 
 rounds-last l k zero n = ap (λ xs. after xs n) (sym (append-nil (round l k)))
 rounds-last l k (suc m) n =
     after-append (round l k) (rounds l k m) (after (round l k) n) ∙ ap (after (round l k)) (rounds-last l k m n) ∙ sym (after-append (round l k) (rounds l k (suc m)) n)
-
-pub drained-rounds : (k m : ℕ) (n : NetState) → (j : ℕ) × (drained k m n ≡ after (rounds n.layout k j) n)
-drained-rounds k zero n = (0, refl)
-drained-rounds k (suc m) n = go n.packets (drained-rounds k m (after (round n.layout k) n))
-  where
-    go : (os : List Outgoing) → (j : ℕ) × (drained k m (after (round n.layout k) n) ≡ after (rounds (after (round n.layout k) n).layout k j) (after (round n.layout k) n)) → (j : ℕ) × (drains_on k (drained k m) os n ≡ after (rounds n.layout k j) n)
-    go [] ih = (0, refl)
-    go (o ∷ os) ih =
-        (suc ih.0, ih.1 ∙ ap (λ (l : Layout). after (rounds l k ih.0) (after (round n.layout k) n)) (layout-stays (round n.layout k) n) ∙ rounds-last n.layout k ih.0 n)
 
 -- The commands of the tasks are those of the events.
 

@@ -21,7 +21,7 @@ use Rattle.law_machine.specs.PlaceMachine.{begun, begun_by, act, work}
 use Rattle.law_machine.proofs.Machine.Stays.{act-stays, work-stays}
 use Rattle.law_machine.proofs.Machine.Ready.{ReadyHere, acts-ready, works-ready}
 use Rattle.law_network.specs.Packets.{first_on, rest_on}
-use Rattle.law_network.specs.Network.{NetState, Event, Enter, Act, Deliver, See, place, ended, turn_for, commanded, works_off, delivered, shown, happened, entered}
+use Rattle.law_network.specs.Network.{NetState, Event, Enter, Act, Deliver, See, place, ended, turn_for, commanded, works_off, delivered, happened, entered}
 use Rattle.law_network.specs.Stands.{Stands}
 use Rattle.law_network.specs.Ready.{IsReady}
 use Rattle.law_network.specs.Schedules.{may_happen, may_give, has_number_left}

@@ -1,12 +1,11 @@
 -- A caller sees an entry: nothing changes but its last clock.
-use Rattle.std.proofs.Common.{ℕ, ◌≡◌, ◌==◌, max, Bool, true, false, List, [], Option, Some, None, slice_get, slice_set, refl, sym, ◌∙◌, ap, subst}
+use Rattle.std.proofs.Common.{ℕ, ◌≡◌, ◌==◌, Bool, true, false, List, [], Option, Some, None, slice_get, refl, sym, ◌∙◌, ap, subst}
 use Rattle.std.specs.Option.{option_map}
-use Rattle.std.proofs.lemmas.Bool.{eqb-true, eqb-false, false≢true}
-use Rattle.chorus_ui.specs.declared.ui.Ui.{Ui}
+use Rattle.std.proofs.lemmas.Bool.{eqb-true, eqb-false}
 use Rattle.chorus_entry.specs.declared.entry.Entry.{Entry}
 use Rattle.chorus_world.specs.Views.{by}
 use Rattle.chorus_world.specs.Runs.{is_run}
-use Rattle.chorus_calls.specs.Callers.{Seated, after_tick, raised}
+use Rattle.chorus_calls.specs.Callers.{Seated, raised}
 use Rattle.law_network.specs.Network.{NetState, shown}
 use Rattle.law_network.specs.Stands.{IsCaller, Stands, actor_of}
 use Rattle.law_network.specs.Ready.{IsReady}

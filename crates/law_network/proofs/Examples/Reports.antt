@@ -10,50 +10,6 @@ use Rattle.law_network.specs.Network.{NetState, Event, Enter, Act as Acts, Deliv
 use Rattle.law_network.specs.Left.{merge}
 use Rattle.law_network.proofs.Examples.Names.{actor, port, group, msg, mess, entry, ran, replies}
 
--- the choice and the verdict of the copy are reported, and heard
-abbrev report_reaches_the_home_place-events : List Event
-report_reaches_the_home_place-events =
-    Enter (actor 1 1) 0
-    ∷ Acts 0 (Command.Make (actor 2 1) 4)
-    ∷ Acts 0 (Command.GroupMake 1)
-    ∷ Acts 0 (Command.Join (group 1 1) (port 2 1))
-    ∷ Enter (actor 2 1) 3
-    ∷ Acts 1 (Command.Send (Dest.One (group 1 1)) (107 ∷ []))
-    ∷ Deliver 0 2 1
-    ∷ Deliver 0 1 2
-    ∷ Deliver 0 1 2
-    ∷ Deliver 0 2 1
-    ∷ Deliver 0 1 2
-    ∷ []
-
-abbrev pub report_reaches_the_home_place : NetState
-report_reaches_the_home_place = ran 2 1 report_reaches_the_home_place-events
-
-pub report_reaches_the_home_place-replies : replies 2 1 report_reaches_the_home_place-events ≡
-    (Reply.Made (port 2 1))
-    ∷ (Reply.Made (group 1 1))
-    ∷ Reply.Joined
-    ∷ (Reply.Posted (msg 1 1 0))
-    ∷ []
-report_reaches_the_home_place-replies = refl
-
-pub report_reaches_the_home_place-says : merge report_reaches_the_home_place ≡
-    entry 1 2 0 (Act.Make (port 2 1) (actor 2 1) 4)
-    ∷ entry 2 1 0 (Act.GroupMake (group 1 1))
-    ∷ entry 3 1 0 (Act.Join (group 1 1) (port 2 1))
-    ∷ entry 4 2 1 (Act.Post (mess (msg 1 1 0) Tag.Plain (107 ∷ [])) (Dest.One (group 1 1)))
-    ∷ entry 5 1 0 (Act.Choose (msg 1 1 0) (group 1 1) ((port 2 1) ∷ []))
-    ∷ entry 6 1 0 (Act.Try (msg 1 1 1) (port 2 1) 2 0)
-    ∷ entry 7 2 0 (Act.Heard (msg 1 1 0) (A.Chosen 1))
-    ∷ entry 8 2 0 (Act.Accept (msg 1 1 1) (port 2 1) 0)
-    ∷ entry 9 1 0 (Act.Told (msg 1 1 1) (A.Accepted 0))
-    ∷ entry 10 2 0 (Act.Heard (msg 1 1 1) (A.Accepted 0))
-    ∷ []
-report_reaches_the_home_place-says = refl
-
-pub report_reaches_the_home_place-rest : report_reaches_the_home_place.packets ≡ []
-report_reaches_the_home_place-rest = refl
-
 -- a copy that is decided at the group's place is reported at once, behind the choice; the others when they are told
 abbrev reports_of_a_broadcast-events : List Event
 reports_of_a_broadcast-events =

@@ -10,49 +10,6 @@ use Rattle.law_network.specs.Network.{NetState, Event, Enter, Act as Acts, Deliv
 use Rattle.law_network.specs.Left.{merge, placed}
 use Rattle.law_network.proofs.Examples.Names.{actor, port, group, msg, mess, rec, entry, held, ran, replies}
 
--- the second port of the site stands at its second place, and the second actor too
-abbrev two_turns_per_site-events : List Event
-two_turns_per_site-events =
-    Enter (actor 1 1) 0
-    ∷ Acts 0 (Command.Make (actor 1 2) 4)
-    ∷ Enter (actor 1 1) 1
-    ∷ Enter (actor 1 2) 1
-    ∷ Acts 1 (Command.Send (Dest.Port (port 1 2)) (120 ∷ []))
-    ∷ Deliver 0 1 2
-    ∷ Deliver 0 2 1
-    ∷ Acts 2 (Command.Move (port 1 2) (actor 2 1))
-    ∷ Deliver 0 2 4
-    ∷ []
-
-abbrev pub two_turns_per_site : NetState
-two_turns_per_site = ran 2 2 two_turns_per_site-events
-
-pub two_turns_per_site-replies : replies 2 2 two_turns_per_site-events ≡
-    (Reply.Made (port 1 2))
-    ∷ (Reply.Posted (msg 1 1 0))
-    ∷ (Reply.Departed 1)
-    ∷ []
-two_turns_per_site-replies = refl
-
-pub two_turns_per_site-says : merge two_turns_per_site ≡
-    entry 1 2 0 (Act.Make (port 1 2) (actor 1 2) 4)
-    ∷ entry 2 1 1 (Act.Post (mess (msg 1 1 0) Tag.Plain (120 ∷ [])) (Dest.Port (port 1 2)))
-    ∷ entry 3 1 1 (Act.Try (msg 1 1 0) (port 1 2) 2 0)
-    ∷ entry 4 2 0 (Act.Accept (msg 1 1 0) (port 1 2) 0)
-    ∷ entry 5 1 0 (Act.Told (msg 1 1 0) (A.Accepted 0))
-    ∷ entry 5 2 2 (Act.Depart (port 1 2) 4 (actor 2 1) 1)
-    ∷ entry 6 4 0 (Act.Arrive (port 1 2) 1)
-    ∷ []
-two_turns_per_site-says = refl
-
-pub two_turns_per_site-rest : two_turns_per_site.packets ≡ []
-two_turns_per_site-rest = refl
-
-pub two_turns_per_site-holds : placed two_turns_per_site ≡
-    held 4 (rec (port 1 2) (actor 2 1) 4 1 0 ((mess (msg 1 1 0) Tag.Plain (120 ∷ [])) ∷ []) [])
-    ∷ []
-two_turns_per_site-holds = refl
-
 -- the group stands at the first place of its site: a post of the second place asks for it, and hears
 abbrev group_at_the_first_place-events : List Event
 group_at_the_first_place-events =

@@ -25,7 +25,7 @@ use Rattle.chorus_world.specs.Messages.{progress}
 use Rattle.chorus_world.specs.Places.{last_clock}
 use Rattle.chorus_world.specs.Posts.{Posted, post_of, site_asked}
 use Rattle.chorus_world.specs.Groups as groups
-use Rattle.chorus_world.specs.Groups.{choice, posts_to, post_to, is_chosen, first_unchosen, is_next_to, is_choosing_place, unchosen}
+use Rattle.chorus_world.specs.Groups.{posts_to, post_to, first_unchosen, is_choosing_place, unchosen}
 use Rattle.chorus_world.specs.Steps.{is_legal}
 use Rattle.chorus_ports.proofs.Tables.{differs_back}
 use Rattle.chorus_world.proofs.Steps.LegalLemmas.{skips}

@@ -1,6 +1,5 @@
 -- A message is received; and a reply ends a call, or is late.
 use Rattle.std.proofs.Common.{ℕ, zero, suc, ◌≡◌, ◌==◌, ◌+◌, Bool, true, false, ◌&&◌, not, cond, if◌then◌else◌, List, [], ◌∷◌, drop, map, Option, Some, None, refl, sym, ◌∙◌, ap, subst, arith, eq-eqb}
-use Rattle.std.specs.List.{slice_get}
 use Rattle.std.proofs.lemmas.Bool.{and_from, and_parts, false≢true}
 use Rattle.chorus_ui.specs.declared.ui.Ui.{Ui}
 use Rattle.chorus_ui.specs.Name.{same_ui}
@@ -43,12 +42,6 @@ use Rattle.law_network.proofs.Standing.Steps.{Stood, says, tables-still, may-say
 use Rattle.law_network.proofs.Ports.HeldPorts.{replaced}
 use Rattle.law_network.proofs.Standing.Leading.{LeadsOn, leads-one}
 use Rattle.law_network.proofs.Ports.PortCommands.{z, each-posted, old-record, port-may, still-packets}
-
-drop-first : (k : ℕ) (xs : List MsgId) (x : MsgId) (ys : List MsgId) → drop k xs ≡ x ∷ ys → slice_get xs k ≡ Some x
-drop-first zero [] x ys h = absurd (cc)
-drop-first zero (y ∷ xs) x ys h = cc
-drop-first (suc k) [] x ys h = absurd (cc)
-drop-first (suc k) (y ∷ xs) x ys h = drop-first k xs x ys h
 
 drop-rest : (k : ℕ) (xs : List MsgId) (x : MsgId) (ys : List MsgId) → drop k xs ≡ x ∷ ys → drop (k + 1) xs ≡ ys
 drop-rest zero [] x ys h = absurd (cc)

@@ -30,7 +30,7 @@ use Rattle.chorus_entry.specs.Order.{is_at}
 use Rattle.chorus_entry.specs.Same.{are_same, is_number, same_route}
 use Rattle.chorus_world.specs.Messages.{progress, progress_after, settled, decided, decided_by, told, is_to_be_heard}
 use Rattle.chorus_world.specs.Ports.{PortState, fate, is_moving}
-use Rattle.chorus_world.specs.Posts.{Posted, post_of, posted_in, source, tag_from, as_posted}
+use Rattle.chorus_world.specs.Posts.{Posted, post_of, posted_in, source, tag_from}
 use Rattle.chorus_world.specs.Places.{last_clock, sent, unsettled, just_taken, reply_taken, reply_taken_by}
 use Rattle.chorus_world.specs.Groups.{posts_to, is_chosen, chooses, is_choosing_place, unchosen}
 use Rattle.chorus_world.specs.Steps.{is_legal, is_asked_from, is_asking_place, may_hear}
@@ -45,7 +45,7 @@ use Rattle.place_unsettled.specs.Queues.{Queue}
 use Rattle.law_machine.specs.declared.outgoing.Outgoing.{Outgoing}
 use Rattle.law_network.specs.Network.{NetState, place}
 use Rattle.law_network.specs.Left.{packets_left, merged_past}
-use Rattle.law_network.specs.Records.{message, as_wait, is_for, sent_for, tried_at, queue_of}
+use Rattle.law_network.specs.Records.{as_wait, is_for, sent_for, tried_at, queue_of}
 use Rattle.law_network.specs.UnderWay.{is_of, is_with, asked_as, other_place, far_place, reported_to, reported_as, under_way_as, under_way, transfer_in, transfer_of, transfer}
 use Rattle.law_network.specs.Stands.{Stands, actor_of}
 use Rattle.law_network.specs.Ready.{IsReady}
@@ -134,13 +134,6 @@ asked-group (e ∷ es) = after-to e.place e.act (progress es) (asked-group es)
 route-self : (r : Option Ui) → same_route r r ≡ true
 route-self None = refl
 route-self (Some g) = same_ui-self g
-
-pub message-id : (past : List Entry) (x : MsgId) → (message past x).id ≡ x
-message-id past x = go (post_of x past)
-  where
-    go : (o : Option Posted) → (as_posted x o).id ≡ x
-    go None = refl
-    go (Some m) = refl
 
 module _ (n : NetState) (past : List Entry) (shape : IsLayout n.layout) (s : Stands n past) (r : IsReady n past) (none : n.packets ≡ []) where
   legal : is_legal n.layout past ≡ true

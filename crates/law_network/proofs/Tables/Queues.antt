@@ -11,7 +11,7 @@ use Rattle.chorus_entry.specs.MsgId.{same_id}
 use Rattle.chorus_entry.proofs.Same.{same_id-self}
 use Rattle.chorus_world.specs.declared.place.Sent.{Sent}
 use Rattle.chorus_world.specs.declared.progress.Progress.{Progress}
-use Rattle.chorus_world.specs.declared.progress.Progress.TheVariants.{Idle, Asked, Tried, Decided, Settled, Reported}
+use Rattle.chorus_world.specs.declared.progress.Progress.TheVariants.{Idle}
 use Rattle.chorus_world.specs.Views.{at, about, is_about}
 use Rattle.chorus_entry.specs.Order.{is_at}
 use Rattle.chorus_entry.specs.Same.{are_same}
@@ -95,10 +95,6 @@ left-too e here (m ∷ ms) =
 keeps-all : (t : Sent → Bool) (ms : List Sent) → EachSent (λ m. t m ≡ true) ms → filter t ms ≡ ms
 keeps-all t [] h = refl
 keeps-all t (m ∷ ms) h = ap (λ b. cond b (m ∷ filter t ms) (filter t ms)) h.0 ∙ ap (λ ns. m ∷ ns) (keeps-all t ms h.1)
-
-drops-all : (t : Sent → Bool) (ms : List Sent) → EachSent (λ m. t m ≡ false) ms → filter t ms ≡ []
-drops-all t [] h = refl
-drops-all t (m ∷ ms) h = ap (λ b. cond b (m ∷ filter t ms) (filter t ms)) h.0 ∙ drops-all t ms h.1
 
 module _ (l : Layout) (past : List Entry) (e : Entry) (k : Key) (all : AllPosted past past) (legal : is_legal l (e ∷ past) ≡ true) where
   abbrev p : ℕ

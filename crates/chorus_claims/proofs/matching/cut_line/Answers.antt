@@ -1,5 +1,4 @@
-use Rattle.std.proofs.Common.{◌≡◌, List, Option, Some, None, ℕ, sym, ap, ◌∙◌}
-use Rattle.std.specs.Option.{option_copied}
+use Rattle.std.proofs.Common.{◌≡◌, ℕ, ◌∙◌}
 use Rattle.chorus_claims.proofs.Cuts.{line_before, last_line, shorter}
 use Rattle.chorus_claims.proofs.matching.cut_line.Goals as goal
 

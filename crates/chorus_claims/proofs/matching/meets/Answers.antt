@@ -1,8 +1,7 @@
 use Rattle.std.proofs.Common.{None, replicate, ◌∙◌, ap, sym}
 use Rattle.std.specs.Option.{option_copied}
 use Rattle.chorus_claims.specs.Words.{words, words_behind, words_in}
-use Rattle.chorus_claims.specs.Pieces.{meets}
-use Rattle.chorus_claims.specs.Shapes.{facts_in, claim_in}
+use Rattle.chorus_claims.specs.Shapes.{facts_in}
 use Rattle.chorus_claims.specs.Ways.{one_right, all_left}
 use Rattle.chorus_claims.specs.declared.form.Form.TheVariants.{Always, Implies, Before}
 use Rattle.chorus_claims.proofs.Depth.{always-met, before-met, implies-met, never-or-possible, as-claimed}

@@ -6,12 +6,11 @@ use Rattle.std.proofs.lemmas.List.Elements.{All-same, All-nil, All-cons}
 use Rattle.chorus_ui.specs.declared.ui.Ui.{Ui}
 use Rattle.chorus_ui.specs.Name.{same_ui}
 use Rattle.chorus_ui.specs.declared.kind.Kind.TheVariants as kinds
-use Rattle.chorus_ui.proofs.Names.{from_same_kind}
 use Rattle.chorus_entry.specs.declared.tag.Tag.TheVariants as tags
 use Rattle.chorus_entry.specs.declared.act.Act.{Act}
 use Rattle.chorus_entry.specs.declared.answer.Answer.TheVariants as A
 use Rattle.chorus_entry.specs.declared.command.Command.{Command}
-use Rattle.chorus_entry.specs.Kinds.{has_kinds_in_tag, has_kinds_in_dest}
+use Rattle.chorus_entry.specs.Kinds.{has_kinds_in_tag}
 use Rattle.chorus_entry.specs.Ranges.{has_range_of_id, has_range_of_tag}
 use Rattle.chorus_entry.specs.Message.{as_copy}
 use Rattle.law_machine.specs.declared.reply.Reply.{Reply}
@@ -306,21 +305,7 @@ posted-here m d g home cs t s u v e here same post made done =
 
 -- The reply.
 
-pub choice-told : (x : MsgId) (made : Choice) (ms qs : List Ui) → made ≡ choices.Members ms → made ≡ made_of qs → Reply.Chosen x (length ms) ≡ choice_reply x qs
-choice-told x made ms [] e f = absurd (let none : choices.NoMember ≡ choices.Members ms = sym f ∙ e in cc)
-choice-told x made ms (q ∷ qs) e f = let same : ms ≡ q ∷ qs = cc in ap (λ (xs : List Ui). Reply.Chosen x (length xs)) same
-
-pub none-told : (x : MsgId) (made : Choice) (qs : List Ui) → made ≡ choices.NoMember → made ≡ made_of qs → Reply.NoMember x ≡ choice_reply x qs
-none-told x made [] e f = refl
-none-told x made (q ∷ qs) e f = absurd (let none : choices.NoMember ≡ choices.Members (q ∷ qs) = sym e ∙ f in cc)
-
 -- The command.
-
-pub group-kind : (d : Dest) (g : Ui) → group_in d ≡ Some g → has_kinds_in_dest d ≡ true → g.kind ≡ kinds.Group
-group-kind (D.Port q) g e h = absurd (cc)
-group-kind (D.All x) g e h = let same : g ≡ x = cc in ap (λ (u : Ui). u.kind) same ∙ from_same_kind x.kind kinds.Group h
-group-kind (D.One x) g e h = let same : g ≡ x = cc in ap (λ (u : Ui). u.kind) same ∙ from_same_kind x.kind kinds.Group h
-group-kind (D.OneAt x site) g e h = let same : g ≡ x = cc in ap (λ (u : Ui). u.kind) same ∙ from_same_kind x.kind kinds.Group h
 
 posts-by : (m : Message) (d : Dest) (g : Ui) (t : Turn) → group_in d ≡ Some g → posts m d t ≡ posts_to_group m d g t
 posts-by m (D.Port q) g t e = absurd (cc)
@@ -344,18 +329,6 @@ sends-here d g body m t u r e at is done told =
           ∙ sym (ap (λ b. cond b (choice_reply n.id (choice d t.place)) (Reply.Posted n.id)) at) ∙ sym (replies-by n.id d g t (act (Command.Send d body) t) e);
     }
 
-pub sends-away : (d : Dest) (g : Ui) (body : List ℕ) (m : Message) (to : ℕ) (t u : Turn) (r : Reply) → group_in d ≡ Some g → to ≡ choosing_place t.place g
-    → (choosing_place t.place g == t.place.number) ≡ false → m ≡ next_message tags.Plain body t.caller → u ≡ asks m d to t → r ≡ Reply.Posted m.id
-    → Performed (Command.Send d body) t u r
-sends-away d g body m to t u r e place at is done told =
-    let n = next_message tags.Plain body t.caller in
-    record {
-      done = done ∙ ap (λ x. asks x d to t) is ∙ ap (λ x. asks n d x t) place
-          ∙ sym (ap (λ b. cond b (chooses_own n d g t) (asks n d (choosing_place t.place g) t)) at) ∙ sym (posts-by n d g t e);
-      answer = told ∙ ap (λ (x : Message). Reply.Posted x.id) is
-          ∙ sym (ap (λ b. cond b (choice_reply n.id (choice d t.place)) (Reply.Posted n.id)) at) ∙ sym (replies-by n.id d g t (act (Command.Send d body) t) e);
-    }
-
 -- Parts of answers.
 
 pub on-err : {V E : Type 0} (r : Result V E) (P : Type 0) → P → OnErr r P
@@ -376,9 +349,3 @@ pub sent-here : {E : Type 0} (res : Result Reply E) (d : Dest) (g : Ui) (body : 
     → IfOk res (λ r. r ≡ choice_reply m.id (choice d t.place)) → IfOk res (λ r. Performed (Command.Send d body) t u r)
 sent-here (Ok r) d g body m t u e at is done told = sends-here d g body m t u r e at is done told
 sent-here (Err x) d g body m t u e at is done told = tt
-
-pub sent-away : {E : Type 0} (res : Result Reply E) (d : Dest) (g : Ui) (body : List ℕ) (m : Message) (to : ℕ) (t u : Turn) → group_in d ≡ Some g → to ≡ choosing_place t.place g
-    → (choosing_place t.place g == t.place.number) ≡ false → m ≡ next_message tags.Plain body t.caller → OnOk res (u ≡ asks m d to t)
-    → IfOk res (λ r. r ≡ Reply.Posted m.id) → IfOk res (λ r. Performed (Command.Send d body) t u r)
-sent-away (Ok r) d g body m to t u e place at is done told = sends-away d g body m to t u r e place at is done told
-sent-away (Err x) d g body m to t u e place at is done told = tt

@@ -1,5 +1,5 @@
 use Rattle.std.proofs.Common.{◌≡◌, ◌++◌, ◌∷◌, [], ap, ◌∙◌, arith, append_assoc}
-use Rattle.chorus_scene.specs.Print.{all_ended, said_text, said_texts}
+use Rattle.chorus_scene.specs.Print.{all_ended, said_texts}
 use Rattle.chorus_print.proofs.Kept.{kept_behind, kept_through, kept_after, on_err}
 use Rattle.chorus_print.proofs.PrintedLines.{setup_on, setup_end}
 use Rattle.chorus_print.proofs.printing.push_setup.Goals as goal

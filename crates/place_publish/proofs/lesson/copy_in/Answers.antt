@@ -2,7 +2,6 @@ use Rattle.std.proofs.Common.{◌-◌, ◌<◌, ◌≤◌, inl, inr, sym, ◌∙
 use Rattle.place_publish.specs.Lessons.{port_in}
 use Rattle.place_publish.proofs.Growing.{slice-at}
 use Rattle.place_publish.proofs.Copies.{copies-none, copies-at, slice-none, not-below, below, rest}
-use Rattle.place_publish.proofs.lesson.copy_in.Goals.{then-post-id-via-then-post-id, then-post-id-via-else-post-id+then-post-id-2, then-post-id-via-else-post-id+else-post-id-2+then-id-eq0}
 use Rattle.place_publish.proofs.lesson.copy_in.Goals as goal
 
 pub returns-then-post-id : goal.returns-then-post-id

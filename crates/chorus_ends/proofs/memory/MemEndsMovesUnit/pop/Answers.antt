@@ -1,7 +1,6 @@
-use Rattle.std.proofs.Common.{◌≡◌, ◌≢◌, ◌∷◌, ◌++◌, ℕ, [], List, map, subst, refl, sym, ◌∙◌, ap}
-use Rattle.std.specs.List.{remove}
+use Rattle.std.proofs.Common.{◌≡◌, ◌≢◌, ◌∷◌, ◌++◌, ℕ, [], List, subst, sym, ◌∙◌, ap}
 use Rattle.chorus_entry.specs.declared.packet.Packet.{Packet}
-use Rattle.chorus_ends.specs.Memory.{Kept, IsFirstFrom, from_place, Gets}
+use Rattle.chorus_ends.specs.Memory.{Kept, IsFirstFrom, from_place}
 use Rattle.chorus_ends.proofs.Packets.{is-from, gets-first, others-stay, seen-push}
 use Rattle.chorus_ends.proofs.memory.MemEndsMovesUnit.pop.Goals as goal
 

@@ -1,4 +1,4 @@
-use Rattle.std.proofs.Common.{ap, sym, ◌∙◌}
+use Rattle.std.proofs.Common.{sym, ◌∙◌}
 use Rattle.law_machine.specs.Doing.{choosing_place}
 use Rattle.chorus_place.specs.PlaceTables.Tables.{state, turn}
 use Rattle.chorus_place.proofs.PlaceTables.Going.{eq-yes}
