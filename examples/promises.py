@@ -9,25 +9,36 @@ import sys
 ACTS = """make make-full no-actor no-site post accept full already clients-full stale early no-port elsewhere no-member choose try told heard take
 done late empty not-here rehome depart arrive group groups-full join leave no-group there not-there members-full outstanding no-call no-request
 cancel delete gone""".split()
-NUMBER = r'(?:0|[1-9]\d*)'
-NAME = rf'{NUMBER}\.[apg]\.{NUMBER}'
-ID = rf'{NUMBER}:{NUMBER}:{NUMBER}'
-DEST = rf'(?:port {NAME}|all {NAME}|one {NAME}|at {NAME} {NUMBER})'
-TAG = rf'(?:plain|request {NUMBER} {NAME}|reply {NUMBER} {NUMBER})'
-BODY = r'(?:[ -$&-~]|%(?:0[0-9a-f]|1[0-9a-f]|25|7f|[89a-f][0-9a-f]))*'
-ANSWER = rf'(?:accepted {NUMBER}|full {NUMBER}|stale {NUMBER} {NUMBER}|early {NUMBER}|no-port|already|clients-full|elsewhere {NUMBER} {NUMBER}|no-member|chosen {NUMBER}|gone)'
+
+
+def below(limit, least=0):
+    """The pattern of the decimal numbers from the least, 0 or 1, to below the limit."""
+    most = str(limit - 1)
+    cut = [f'{most[:i]}[{int(i == 0)}-{int(digit) - 1}][0-9]{{{len(most) - 1 - i}}}' for i, digit in enumerate(most) if int(digit) > (i == 0)]
+    return '(?:' + '|'.join([*['0'][least:], f'[1-9][0-9]{{0,{len(most) - 2}}}', *cut, most]) + ')'
+
+
+BYTE, SHORT, WORD, LONG = (below(2**bits) for bits in (8, 16, 32, 64))
+NAME = rf'{below(2**16, 1)}\.[apg]\.{below(2**40, 1)}'
+ID = rf'{WORD}:{WORD}:{SHORT}'
+DEST = rf'(?:port {NAME}|all {NAME}|one {NAME}|at {NAME} {SHORT})'
+TAG = rf'(?:plain|request {WORD} {NAME}|reply {WORD} {WORD})'
+BODY = r'(?:[ -$&-~]|%(?:0[0-9a-f]|1[0-9a-f]|25|7f|[89a-f][0-9a-f])){0,4096}'
+ANSWER = (
+    rf'(?:accepted {LONG}|full {BYTE}|stale {SHORT} {LONG}|early {LONG}|no-port|already|clients-full|elsewhere {SHORT} {LONG}|no-member|chosen {SHORT}|gone)'
+)
 FORMS = {
-    'make': f'{NAME} {NAME} {NUMBER}', 'make-full': NAME, 'no-actor': NAME, 'no-site': NUMBER, 'post': f'{ID} {DEST} {TAG} ={BODY}',
-    'accept': f'{ID} {NAME} {NUMBER}', 'full': f'{ID} {NAME} {NUMBER}', 'already': f'{ID} {NAME}', 'clients-full': f'{ID} {NAME}',
-    'stale': f'{ID} {NAME} {NUMBER} {NUMBER} {NUMBER}', 'early': f'{ID} {NAME} {NUMBER}', 'no-port': f'{ID} {NAME}',
-    'elsewhere': f'{ID} {NAME} {NUMBER} {NUMBER}', 'no-member': f'{ID} {NAME}', 'choose': f'{ID} {NAME}(?: {NAME}){{0,32}}',
-    'try': f'{ID} {NAME} {NUMBER} {NUMBER}', 'told': f'{ID} {ANSWER}', 'heard': f'{ID} {ANSWER}', 'take': f'{NAME} {NUMBER} {ID}',
-    'done': NUMBER, 'late': NUMBER, 'empty': NAME, 'not-here': NAME, 'rehome': f'{NAME} {NAME}', 'depart': f'{NAME} {NUMBER} {NAME} {NUMBER}',
-    'arrive': f'{NAME} {NUMBER}', 'group': NAME, 'groups-full': NUMBER, 'join': f'{NAME} {NAME}', 'leave': f'{NAME} {NAME}', 'no-group': NAME,
-    'there': f'{NAME} {NAME}', 'not-there': f'{NAME} {NAME}', 'members-full': NAME, 'outstanding': NUMBER, 'no-call': '', 'no-request': '',
-    'cancel': NUMBER, 'delete': f'{NAME}(?: {ID})*', 'gone': f'{ID} {NAME}',
+    'make': f'{NAME} {NAME} {BYTE}', 'make-full': NAME, 'no-actor': NAME, 'no-site': SHORT, 'post': f'{ID} {DEST} {TAG} ={BODY}',
+    'accept': f'{ID} {NAME} {LONG}', 'full': f'{ID} {NAME} {BYTE}', 'already': f'{ID} {NAME}', 'clients-full': f'{ID} {NAME}',
+    'stale': f'{ID} {NAME} {SHORT} {LONG} {SHORT}', 'early': f'{ID} {NAME} {LONG}', 'no-port': f'{ID} {NAME}',
+    'elsewhere': f'{ID} {NAME} {SHORT} {LONG}', 'no-member': f'{ID} {NAME}', 'choose': f'{ID} {NAME}(?: {NAME}){{0,32}}',
+    'try': f'{ID} {NAME} {SHORT} {LONG}', 'told': f'{ID} {ANSWER}', 'heard': f'{ID} {ANSWER}', 'take': f'{NAME} {LONG} {ID}',
+    'done': WORD, 'late': WORD, 'empty': NAME, 'not-here': NAME, 'rehome': f'{NAME} {NAME}', 'depart': f'{NAME} {SHORT} {NAME} {LONG}',
+    'arrive': f'{NAME} {LONG}', 'group': NAME, 'groups-full': SHORT, 'join': f'{NAME} {NAME}', 'leave': f'{NAME} {NAME}', 'no-group': NAME,
+    'there': f'{NAME} {NAME}', 'not-there': f'{NAME} {NAME}', 'members-full': NAME, 'outstanding': WORD, 'no-call': '', 'no-request': '',
+    'cancel': WORD, 'delete': f'{NAME}(?: {ID})*', 'gone': f'{ID} {NAME}',
 }
-ENTRY = re.compile(rf'({NUMBER}) ({NUMBER}) ({NUMBER}) (?:' + '|'.join(f'{act} {form}' if form else act for act, form in FORMS.items()) + ')')
+ENTRY = re.compile(rf'({LONG}) ({SHORT}) ({WORD}) (?:' + '|'.join(f'{act} {form}' if form else act for act, form in FORMS.items()) + ')')
 REFUSALS = ('full', 'already', 'clients-full', 'early', 'no-port', 'elsewhere', 'gone')
 # The kinds of the names of each act that is read, in their order; a choose has ports behind its group.
 KINDS = {'make': 'pa', 'no-member': 'g', 'choose': 'g', 'depart': 'pa'}
@@ -182,7 +193,7 @@ class Promises:
         names = [word.split('.')[1] for word in (f[:4] if act == 'post' else f) if re.fullmatch(NAME, word)]
         if act == 'post':
             goes = 'p' if f[1] == 'port' else 'g'
-            back = re.match(rf'{ID} {DEST} request {NUMBER} ({NAME})', ' '.join(f))
+            back = re.match(rf'{ID} {DEST} request {WORD} ({NAME})', ' '.join(f))
             yield f[2].split('.')[1] == goes and (not back or back[1].split('.')[1] == 'p')
         else:
             yield all(kind == wanted for kind, wanted in zip(names, KINDS.get(act, '') + 'p' * len(names)))
@@ -269,6 +280,24 @@ def summary(entries):
     return ['summary', *(f'{word} {number}' for word, number in rows), 'end']
 
 
+# Acts by which no command is answered.
+NO_COMMANDS = 'accept full already clients-full stale early no-port elsewhere gone no-member choose try told heard arrive done late'.split()
+
+
+def with_stuck(lines, entries, rest):
+    """The lines of the summary, and before its end those of scripts that may be stuck, as far as the rest has them."""
+    front, last = lines[:-1], 0
+    for line in rest[len(front):]:
+        found = re.fullmatch(rf'stuck ({WORD}) ({LONG})', line)
+        script, command = map(int, found.groups()) if found else (0, 0)
+        given = sum(entry[2] == script and entry[3] not in NO_COMMANDS for entry in entries)
+        if script <= last or command != given + 1:
+            break
+        front.append(line)
+        last = script
+    return [*front, lines[-1]]
+
+
 def judge(text, sites=16, turns=1):
     """The lines of the judgement, and the status."""
     lines = text.split('\n')
@@ -279,8 +308,8 @@ def judge(text, sites=16, turns=1):
         said = f'wrong line {line} rule {rule}' + (f' condition {condition}' if condition else '') + (f' line {about}' if about else '')
         return [said, f'open {len(found)}', *found[:100]], 7
 
-    head = re.fullmatch(rf'journal ({NUMBER})(?: (?:[1-9]|1[0-6]) [124])?', lines[0])
-    if not head or len(lines) < 2 or int(head[1]) >= 2**32:
+    head = re.fullmatch(rf'journal ({WORD})(?: (?:[1-9]|1[0-6]) [124])?', lines[0])
+    if not head or len(lines) < 2:
         return wrong(1, 99)
     for line, read in enumerate(lines[1:1 + int(head[1])], 2):
         if line == len(lines) or not ENTRY.fullmatch(read):     # the last piece lacks its LF
@@ -296,11 +325,11 @@ def judge(text, sites=16, turns=1):
         promises.follow(entry, line)
     if len(lines) <= 1 + int(head[1]):
         return wrong(len(lines), 99)
-    for line, (read, wanted) in enumerate(zip(lines[1 + len(entries):] + [None], summary(entries) + ['']), 2 + len(entries)):
-        if read != wanted:
-            return wrong(line, 99)
-    if len(lines) != len(entries) + 1 + len(summary(entries)) + 1:
-        return wrong(2 + len(entries) + len(summary(entries)), 99)
+    rest = lines[1 + len(entries):]
+    wanted = with_stuck(summary(entries), entries, rest[:-1])   # the last piece lacks its LF
+    if rest != [*wanted, '']:
+        shared = next((at for at, pair in enumerate(zip(rest[:-1], wanted)) if pair[0] != pair[1]), min(len(rest) - 1, len(wanted)))
+        return wrong(2 + len(entries) + shared, 99)
     found = promises.open()
     return [f'kept {len(entries)}', f'open {len(found)}', *found[:100]], 8 if found else 0
 

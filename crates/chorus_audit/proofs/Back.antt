@@ -66,7 +66,7 @@ has_room_read text d read =
     let ws = parts 32 text in
     room_of (parse_decimal (first ws)) (u16_in (second ws)) (u32_in (third ws)) (act_in (rest (rest (rest ws)))) d read
 
-not_equal : (s t : List ℕ) → false ≡ bytes_eq s t → s ≢ t
+pub not_equal : (s t : List ℕ) → false ≡ bytes_eq s t → s ≢ t
 not_equal s t h e = false≢true (h ∙ (bytes_eq-Decides s t).1 e)
 
 pub none_printed_by : (text : List ℕ) (d : Entry) → entry_held (parts 32 text) ≡ Some d → false ≡ bytes_eq (entry_text d) (text ++ 10 ∷ []) → (e : Entry) → IsWithin e → entry_text e ≢ text ++ 10 ∷ []

@@ -5,4 +5,7 @@ pub mod Agreeing
 pub mod Verdicts
 pub mod Steps
 pub mod Bodies
+pub mod Sharing
+pub mod Waiters
+pub mod Counting
 pub mod Lined

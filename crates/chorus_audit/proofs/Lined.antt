@@ -2,9 +2,9 @@
 use Rattle.std.proofs.Common.{◌≡◌, ◌≢◌, ℕ, ◌+◌, ◌^◌, ◌<◌, ◌≤◌, List, [], ◌∷◌, ◌++◌, Some, length, refl, sym, ap, ◌∙◌, subst, append_assoc, arith, length-append}
 use Rattle.chorus_entry.specs.declared.entry.Entry.{Entry}
 use Rattle.chorus_show.specs.Lines.{entry_text}
-use Rattle.chorus_show.specs.Summary.{summary_text}
+use Rattle.chorus_show.specs.Report.{summary_with}
 use Rattle.chorus_show.proofs.LineBack.{line}
-use Rattle.chorus_audit.specs.Tests.{head, lines_shared, IsNoEntry}
+use Rattle.chorus_audit.specs.Tests.{head, IsNoEntry, IsNoSummary, IsSummary}
 use Rattle.chorus_audit.specs.Lines.{AreLines, AtEntry, AtHead, AtSummary, BeginsWith, BeginsWithEntry, IsWhole}
 use Rattle.chorus_audit.proofs.Agreeing.{lines}
 use Rattle.chorus_audit.proofs.Steps.{lines_end, within_end}
@@ -54,25 +54,32 @@ stop_line text n es rest taken h less none = AtEntry (record {
 begun : (text : List ℕ) (n : ℕ) (es : List Entry) (rest : List ℕ) → Read text n es rest n → BeginsWith text (length es) es rest
 begun text n es rest h = subst (λ m. BeginsWith text m es rest) (sym h.count_is) h.begins
 
-pub whole_end : (text : List ℕ) (n : ℕ) (es : List Entry) (rest : List ℕ) → Read text n es rest n → rest ≡ summary_text es → IsWhole text es
-whole_end text n es rest h is =
+pub whole_end : (text : List ℕ) (n : ℕ) (es : List Entry) (rest : List ℕ) → Read text n es rest n → IsSummary es rest → IsWhole text es
+whole_end text n es rest h (stuck, are, is) =
     let b = begun text n es rest h in
     record {
       number = b.number;
       within = b.within;
+      stuck = stuck;
+      are = are;
       is =
           b.is
           ∙ ap (λ t. head (length es) ++ (lines es ++ t)) is
-          ∙ sym (append_assoc (head (length es)) (lines es) (summary_text es));
+          ∙ sym (append_assoc (head (length es)) (lines es) (summary_with stuck es));
     }
 
-pub summary_stop : (text : List ℕ) (n : ℕ) (es : List Entry) (rest : List ℕ) (shared : ℕ) → Read text n es rest n → rest ≢ summary_text es → shared ≡ lines_shared rest (summary_text es) → AreLines text es (Some (n + 2 + shared))
-summary_stop text n es rest shared h differs is = AtSummary (record {
+pub summary_stop : (text : List ℕ) (n : ℕ) (es : List Entry) (rest : List ℕ) (shared : ℕ) → Read text n es rest n → IsNoSummary es rest shared → AreLines text es (Some (n + 2 + shared))
+summary_stop text n es rest shared h none = AtSummary (record {
   rest = rest;
   begins = begun text n es rest h;
-  differs = differs;
-  is_line = omega (arith, h.count_is, is);
+  shared = shared;
+  none = none;
+  is_line = omega (arith, h.count_is);
 })
+
+-- they are few
+pub few : (text : List ℕ) (n : ℕ) (es : List Entry) (rest : List ℕ) (taken : ℕ) → Read text n es rest taken → length text ≤ 268435456 → length es ≤ 268435456
+few text n es rest taken h short = omega (arith, h.count_is, h.shorter, short)
 
 pub head_stop : (text : List ℕ) (es : List Entry) → es ≡ [] → ((n : ℕ) (rest : List ℕ) → n < 2 ^ 32 → text ≢ head n ++ rest) → AreLines text es (Some 1)
 head_stop text es none no_head = AtHead (record { is_first = refl; is_rule = refl; no_head = no_head }) none

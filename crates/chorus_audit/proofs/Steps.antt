@@ -14,14 +14,14 @@ use Rattle.chorus_checker.specs.Refusals.{IsRefusal}
 use Rattle.chorus_checker.specs.Rules.{rule_of}
 use Rattle.chorus_show.specs.Phrases.{phrase}
 use Rattle.chorus_show.specs.Lines.{entry_text}
-use Rattle.chorus_show.specs.Summary.{summary_text}
+use Rattle.chorus_show.specs.Report.{summary_with}
 use Rattle.chorus_show.specs.Reading.{lacks, below, u32_in}
 use Rattle.chorus_show.proofs.LineBack.{line, entry_line, count_lacks, back_n32}
 use Rattle.chorus_audit.specs.declared.judging.Audit.{Audit}
 use Rattle.chorus_audit.specs.declared.judging.Audit.TheVariants.{Legal, Wrong}
 use Rattle.chorus_show.specs.Bounds.{IsWithin, AreWithin}
 use Rattle.chorus_audit.specs.Calls.{behind}
-use Rattle.chorus_audit.specs.Tests.{head, Begins, IsNoEntry, IsUnlawful, lines_shared, AtHead, AtEntry, AtSummary, IsRead, IsVerdict}
+use Rattle.chorus_audit.specs.Tests.{head, Begins, IsNoEntry, IsUnlawful, IsSummary, IsNoSummary, AtHead, AtEntry, AtSummary, IsRead, IsVerdict}
 use Rattle.chorus_audit.specs.Stops.{IsStop, TakesEntry}
 use Rattle.chorus_audit.proofs.Cutting.{cut_once}
 use Rattle.chorus_audit.proofs.Agreeing.{lines}
@@ -216,36 +216,43 @@ module _ (l : Layout) (text : List ℕ) (n : ℕ) (w : State) (rest : List ℕ) 
   begun : Begins l text n entries rest
   begun = subst (λ es. Begins l text n es rest) (sym all) h.begins
 
-  legal_entries : rest ≡ summary_text entries → IsRead l text (Legal n) entries
-  legal_entries is = (
+  legal_entries : IsSummary entries rest → IsRead l text (Legal n) entries
+  legal_entries (stuck, are, is) = (
     record {
       number = subst (λ m. m < 4294967296) (sym len) begun.number;
       within = begun.within;
       legal = begun.legal;
+      stuck = stuck;
+      are = are;
       is =
           begun.is
           ∙ ap (λ t. head n ++ (lines entries ++ t)) is
-          ∙ sym (append_assoc (head n) (lines entries) (summary_text entries))
-          ∙ ap (λ m. (head m ++ lines entries) ++ summary_text entries) (sym len);
+          ∙ sym (append_assoc (head n) (lines entries) (summary_with stuck entries))
+          ∙ ap (λ m. (head m ++ lines entries) ++ summary_with stuck entries) (sym len);
     },
     len,
   )
 
-  pub legal_end : rest ≡ summary_text entries → IsRead l text (Legal n) (reverse w.past)
+  pub legal_end : IsSummary entries rest → IsRead l text (Legal n) (reverse w.past)
   legal_end is = subst (IsRead l text (Legal n)) all (legal_entries is)
 
-  pub summary_end : (shared : ℕ) → rest ≢ summary_text entries → shared ≡ lines_shared rest (summary_text entries) → IsRead l text (Wrong (n + 2 + shared) 99) (reverse w.past)
-  summary_end shared differs is = (
+  pub summary_end : (shared : ℕ) → IsNoSummary entries rest shared → IsRead l text (Wrong (n + 2 + shared) 99) (reverse w.past)
+  summary_end shared none = (
     AtSummary (record {
       entries = entries;
       rest = rest;
       begins = subst (λ m. Begins l text m entries rest) (sym len) begun;
-      differs = differs;
-      is_line = omega (arith, len, is);
+      shared = shared;
+      none = none;
+      is_line = omega (arith, len);
       is_rule = refl;
     }),
     sym all,
   )
+
+  -- and they are few
+  pub few : length text ≤ 268435456 → length entries ≤ 268435456
+  few short = omega (arith, len, h.shorter)
 
 -- and the verdict alone
 pub verdict_of : (l : Layout) (text : List ℕ) (audit : Audit) (es : List Entry) → IsRead l text audit es → IsVerdict l text audit

@@ -1,3 +1,4 @@
+pub mod Stuck
 pub mod Calls
 pub mod Report
 pub mod Tests

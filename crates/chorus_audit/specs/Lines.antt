@@ -1,13 +1,14 @@
 -- What is read of a text, whatever its entries say.
-use Rattle.std.specs.Prelude.{◌≡◌, ◌≢◌, ℕ, ◌+◌, ◌<◌, ◌≤◌, ◌^◌, List, [], ◌++◌, length, Option, Some, None}
+use Rattle.std.specs.Prelude.{◌≡◌, ℕ, ◌+◌, ◌<◌, ◌≤◌, ◌^◌, List, [], ◌++◌, length, Option, Some, None}
 use Rattle.std.specs.List.{flat_map}
 use Rattle.chorus_entry.specs.declared.entry.Entry.{Entry}
 use Rattle.chorus_show.specs.Bounds.{AreWithin, IsWithin}
 use Rattle.chorus_show.specs.Lines.{entry_text}
-use Rattle.chorus_show.specs.Report.{report}
-use Rattle.chorus_show.specs.Summary.{summary_text}
+use Rattle.chorus_show.specs.Report.{report_with}
+use Rattle.chorus_show.specs.declared.stuck.Stuck.{Stuck}
 use Rattle.chorus_audit.specs.declared.limits.TheConstants.{NO_LINE}
-use Rattle.chorus_audit.specs.Tests.{head, lines_shared, FailsAtHead, IsNoEntry}
+use Rattle.chorus_audit.specs.Stuck.{AreStuck}
+use Rattle.chorus_audit.specs.Tests.{head, FailsAtHead, IsNoEntry, IsNoSummary}
 
 -- the text begins with the line of the entry, and this stands behind it
 pub record BeginsWithEntry (text : List ℕ) (e : Entry) (rest : List ℕ) : Type 0 where
@@ -34,8 +35,9 @@ pub record StopsAtEntry (text : List ℕ) (line : ℕ) (es : List Entry) : Type 
 pub record StopsAtSummary (text : List ℕ) (line : ℕ) (es : List Entry) : Type 0 where
   pub rest : List ℕ
   pub begins : BeginsWith text (length es) es rest
-  pub differs : rest ≢ summary_text es
-  pub is_line : line ≡ length es + 2 + lines_shared rest (summary_text es)
+  pub shared : ℕ
+  pub none : IsNoSummary es rest shared
+  pub is_line : line ≡ length es + 2 + shared
 
 -- the first line that is none that may stand there, and the entries in front of it
 pub data Stops (text : List ℕ) (line : ℕ) (es : List Entry) : Type 0 where
@@ -43,11 +45,13 @@ pub data Stops (text : List ℕ) (line : ℕ) (es : List Entry) : Type 0 where
   AtEntry : StopsAtEntry text line es → Stops text line es
   AtSummary : StopsAtSummary text line es → Stops text line es
 
--- the text is the journal text and the summary text of these entries
+-- the text is the journal text and the summary text of these entries, in which these scripts are stuck
 pub record IsWhole (text : List ℕ) (es : List Entry) : Type 0 where
   pub number : length es < 2 ^ 32
   pub within : AreWithin es
-  pub is : text ≡ report es
+  pub stuck : List Stuck
+  pub are : AreStuck es 0 stuck
+  pub is : text ≡ report_with stuck es
 
 -- the entries that were read, and the line where the text stops, if it does
 abbrev pub AreLines : List ℕ → List Entry → Option ℕ → Type 0

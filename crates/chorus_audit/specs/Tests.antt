@@ -8,12 +8,14 @@ use Rattle.chorus_world.specs.Steps.{may, is_legal}
 use Rattle.chorus_checker.specs.Rules.{rule_of}
 use Rattle.chorus_show.specs.Lines.{entry_text}
 use Rattle.chorus_show.specs.Journal.{count_line}
-use Rattle.chorus_show.specs.Summary.{summary_text}
+use Rattle.chorus_show.specs.declared.stuck.Stuck.{Stuck}
+use Rattle.chorus_show.specs.Report.{summary_with}
 use Rattle.chorus_audit.specs.declared.limits.TheConstants.{NO_LINE}
 use Rattle.chorus_audit.specs.declared.judging.Audit.{Audit}
 use Rattle.chorus_audit.specs.declared.judging.Audit.TheVariants.{Legal, Wrong}
 use Rattle.chorus_show.specs.Bounds.{IsWithin, AreWithin}
 use Rattle.chorus_audit.specs.Report.{IsReport}
+use Rattle.chorus_audit.specs.Stuck.{AreStuck}
 
 -- the line `journal N`, N being below 2^32
 abbrev pub head : ℕ → List ℕ
@@ -63,13 +65,26 @@ lines_shared [] ds = 0
 lines_shared (c ∷ cs) [] = 0
 lines_shared (c ∷ cs) (d ∷ ds) = if c == d then (if c == 10 then 1 + lines_shared cs ds else lines_shared cs ds) else 0
 
+-- a text is the summary of these entries, in which some scripts are stuck
+abbrev pub IsSummary : List Entry → List ℕ → Type 0
+IsSummary es rest = (stuck : List Stuck) × AreStuck es 0 stuck × (rest ≡ summary_with stuck es)
+
+-- It is none. With one of them it shares so many lines, and with none more.
+pub record IsNoSummary (es : List Entry) (rest : List ℕ) (shared : ℕ) : Type 0 where
+  pub differs : IsSummary es rest → ⊥
+  pub stuck : List Stuck
+  pub are : AreStuck es 0 stuck
+  pub shares : shared ≡ lines_shared rest (summary_with stuck es)
+  pub most : (others : List Stuck) → AreStuck es 0 others → lines_shared rest (summary_with others es) ≤ shared
+
 -- what stands behind the entries is not their summary
 pub record FailsAtSummary (l : Layout) (text : List ℕ) (line rule : ℕ) : Type 0 where
   pub entries : List Entry
   pub rest : List ℕ
   pub begins : Begins l text (length entries) entries rest
-  pub differs : rest ≢ summary_text entries
-  pub is_line : line ≡ length entries + 2 + lines_shared rest (summary_text entries)
+  pub shared : ℕ
+  pub none : IsNoSummary entries rest shared
+  pub is_line : line ≡ length entries + 2 + shared
   pub is_rule : rule ≡ NO_LINE
 
 -- the first line that fails, and its rule

@@ -1,15 +1,16 @@
 //! A whole text, tested line by line.
 
-ghost use Rattle.std.specs.Prelude.{◌≡◌, ◌≢◌, ◌≤◌, ◌<◌, ◌↔◌, ◌^◌, ◌++◌, ℕ, List, length, reverse, IfOk, OnErr, MatchOption, MatchResult};
+ghost use Rattle.std.specs.Prelude.{◌≡◌, ◌≢◌, ◌≤◌, ◌<◌, ◌↔◌, ◌^◌, ◌++◌, ◌+◌, ℕ, List, codes, length, reverse, IfOk, OnErr, MatchOption, MatchResult};
 ghost use Rattle.chorus_entry.specs.declared.entry.Entry.{Entry};
-ghost use Rattle.chorus_show.specs.Summary.{summary_text};
+ghost use Rattle.chorus_show.specs.Summary.{summary_lines};
 ghost use Rattle.chorus_audit.specs.declared.limits.TheConstants.{AUDIT_LIMIT};
 ghost use Rattle.chorus_audit.specs.declared.judging.Audit.TheVariants.{Legal, Wrong};
 ghost use Rattle.chorus_audit.specs.Report.{IsReport};
-ghost use Rattle.chorus_audit.specs.Tests.{head, lines_shared, IsRead, IsWrong, IsVerdict};
+ghost use Rattle.chorus_audit.specs.Tests.{head, lines_shared, IsNoSummary, IsRead, IsSummary, IsWrong, IsVerdict};
 ghost use Rattle.chorus_audit.specs.Reads.{IsReading};
 ghost use Rattle.chorus_audit.specs.Stops.{IsStop, TakesEntry};
 
+use crate::awaits::skip_stuck;
 use crate::cut::cut;
 use crate::entries::parse_in;
 use crate::field::Field;
@@ -162,26 +163,59 @@ fn take_entry<'a>(
     }
 }
 
-/// How many lines the text shares with the summary of the entries before it differs. None exactly where it is that summary.
+/// How many lines the text shares with the summary of the entries before it differs, in which scripts may be stuck, as the text
+/// says it. None exactly where it is such a summary.
 pub(crate) fn summary_fault(
     alloc: Global,
     entries: &[Entry],
     text: &[u8],
 ) -> Result<Option<u32>, AllocError>
-    requires { length text.now ≤ AUDIT_LIMIT }
+    requires few { length entries.now ≤ AUDIT_LIMIT }
+    requires short { length text.now ≤ AUDIT_LIMIT }
     ensures { IfOk result (λ fault. MatchOption fault
-        (text.now ≡ summary_text entries.now)
-        (λ shared. (text.now ≢ summary_text entries.now)
-        × (shared ≡ lines_shared text.now (summary_text entries.now))
-        × (shared ≤ length text.now))) }
+        (IsSummary entries.now text.now)
+        (λ shared. IsNoSummary entries.now text.now shared × (shared ≤ length text.now))) }
 {
     let mut summary = Vec::new(alloc);
     summary_text(entries, &mut summary)?;
-    if text == summary.as_slice() {
-        Ok(None)
-    } else {
-        Ok(Some(lines_shared(text, &summary)))
+    let lines = before_end(&summary);
+    match text.strip_prefix(lines) {
+        Some(left) => end_fault(alloc, entries, lines, left),
+        None => Ok(Some(lines_shared(text, &summary))),
     }
+}
+
+/// The summary without its last line, `end`.
+fn before_end(summary: &[u8]) -> &[u8]
+    ensures { (lines : List ℕ) → summary.now ≡ lines ++ codes "end\n" → result.now ≡ lines }
+{
+    match summary.strip_suffix(b"end\n") {
+        Some(lines) => lines,
+        None => summary,
+    }
+}
+
+/// The same as [`summary_fault`] of these lines, which are those of the summary before its end, and of what is left behind them.
+fn end_fault(
+    alloc: Global,
+    entries: &[Entry],
+    lines: &[u8],
+    left: &[u8],
+) -> Result<Option<u32>, AllocError>
+    requires few { length entries.now ≤ AUDIT_LIMIT }
+    requires short { length lines.now + length left.now ≤ AUDIT_LIMIT }
+    requires lines { lines.now ≡ summary_lines entries.now }
+    ensures { IfOk result (λ fault. MatchOption fault
+        (IsSummary entries.now (lines.now ++ left.now))
+        (λ shared. IsNoSummary entries.now (lines.now ++ left.now) shared
+        × (shared ≤ length lines.now + length left.now))) }
+{
+    let (stuck, behind) = skip_stuck(alloc, entries, left)?;
+    if behind == b"end\n".as_slice() {
+        return Ok(None);
+    }
+    let shared = lines_shared(lines, lines) + stuck + lines_shared(behind, b"end\n");
+    Ok(Some(shared))
 }
 
 /// How many lines, each with its LF, the audited text shares with the other one before they differ.

@@ -12,6 +12,8 @@
 
 mod acts;
 mod auditing;
+mod awaits;
+mod commands;
 mod cut;
 mod entries;
 mod fault;

@@ -6,12 +6,13 @@ use Rattle.chorus_entry.specs.declared.entry.Entry.{Entry}
 use Rattle.chorus_show.specs.Journal.{journal_head, journal_lines}
 use Rattle.chorus_show.specs.Phrases.{phrase}
 use Rattle.chorus_show.specs.Reading.{lacks}
-use Rattle.chorus_show.specs.Summary.{summary_text}
+use Rattle.chorus_show.specs.Report.{summary_with}
 use Rattle.chorus_show.proofs.LineBack.{count_lacks}
 use Rattle.chorus_audit.specs.declared.judging.Audit.{Audit}
 use Rattle.chorus_audit.specs.declared.judging.Audit.TheVariants.{Legal, Wrong}
+use Rattle.chorus_audit.specs.Report.{IsReport}
 use Rattle.chorus_audit.specs.Tests.{Begins, IsRead, IsWrong, AtEntry, AtHead, AtSummary, entries_before}
-use Rattle.chorus_picture.specs.Found.{behind_lines, found_by, found_text, lawful_text}
+use Rattle.chorus_picture.specs.Found.{behind_lines, LawfulTextsHaveSummaries}
 use Rattle.chorus_picture.specs.Picture.{HasLines}
 
 all_behind : (text : List ℕ) → behind_lines 0 text ≡ text
@@ -34,49 +35,35 @@ behind_head n more small =
     ap (behind_lines 1) (append_assoc (phrase (codes "journal") (decimal n ∷ [])) (10 ∷ []) more)
     ∙ behind_one (phrase (codes "journal") (decimal n ∷ [])) more (count_lacks (codes "journal") n refl (omega (arith, small)))
 
-wrong_not_legal : (line rule n : ℕ) → Wrong line rule ≡ Legal n → ⊥
-wrong_not_legal line rule n h = grind arith
-
-begun : (l : Layout) (text : List ℕ) (n : ℕ) (es : List Entry) (rest : List ℕ) (line rule : ℕ) → Begins l text n es rest → HasLines text es (Wrong line rule)
-begun l text n es rest line rule h = record {
+begun : (l : Layout) (text : List ℕ) (n : ℕ) (es : List Entry) (rest : List ℕ) → Begins l text n es rest → HasLines text es
+begun l text n es rest h = record {
   within = h.within;
   more = rest;
   lines = ap (behind_lines 1) h.is ∙ behind_head n (journal_lines es ++ rest) h.number;
-  summary = λ m legal. absurd (wrong_not_legal line rule m legal);
 }
 
-wrong_lines : (l : Layout) (text : List ℕ) (line rule : ℕ) (es : List Entry) (wrong : IsWrong l text line rule) → es ≡ entries_before wrong → HasLines text es (Wrong line rule)
-wrong_lines l text line rule es (AtHead fails) is =
-    subst (λ ds. HasLines text ds (Wrong line rule)) (sym is)
-    (record { within = tt; more = behind_lines 1 text; lines = refl; summary = λ m legal. absurd (wrong_not_legal line rule m legal) })
-wrong_lines l text line rule es (AtEntry fails) is =
-    subst (λ ds. HasLines text ds (Wrong line rule)) (sym is) (begun l text fails.told fails.entries fails.rest line rule fails.begins)
-wrong_lines l text line rule es (AtSummary fails) is =
-    subst (λ ds. HasLines text ds (Wrong line rule)) (sym is) (begun l text (length fails.entries) fails.entries fails.rest line rule fails.begins)
+wrong_lines : (l : Layout) (text : List ℕ) (line rule : ℕ) (es : List Entry) (wrong : IsWrong l text line rule) → es ≡ entries_before wrong → HasLines text es
+wrong_lines l text line rule es (AtHead fails) is = subst (HasLines text) (sym is) (record { within = tt; more = behind_lines 1 text; lines = refl })
+wrong_lines l text line rule es (AtEntry fails) is = subst (HasLines text) (sym is) (begun l text fails.told fails.entries fails.rest fails.begins)
+wrong_lines l text line rule es (AtSummary fails) is = subst (HasLines text) (sym is) (begun l text (length fails.entries) fails.entries fails.rest fails.begins)
 
-pub has_lines : (l : Layout) (text : List ℕ) (audit : Audit) (es : List Entry) → IsRead l text audit es → HasLines text es audit
-has_lines l text (Legal n) es h = record {
-  within = h.0.within;
-  more = summary_text es;
-  lines =
-      ap (behind_lines 1) (h.0.is ∙ append_assoc (journal_head (length es)) (journal_lines es) (summary_text es))
-      ∙ behind_head (length es) (journal_lines es ++ summary_text es) h.0.number;
-  summary = λ m legal. refl;
-}
+legal_lines : (l : Layout) (text : List ℕ) (es : List Entry) (h : IsReport l text es) → behind_lines 1 text ≡ journal_lines es ++ summary_with h.stuck es
+legal_lines l text es h =
+    ap (behind_lines 1) (h.is ∙ append_assoc (journal_head (length es)) (journal_lines es) (summary_with h.stuck es))
+    ∙ behind_head (length es) (journal_lines es ++ summary_with h.stuck es) h.number
+
+pub has_lines : (l : Layout) (text : List ℕ) (audit : Audit) (es : List Entry) → IsRead l text audit es → HasLines text es
+has_lines l text (Legal n) es h = record { within = h.0.within; more = summary_with h.0.stuck es; lines = legal_lines l text es h.0 }
 has_lines l text (Wrong line rule) es h = wrong_lines l text line rule es h.0 h.1
 
--- what stands behind the lines
+-- what stands behind the lines of a lawful text
 front_long : (front back : List ℕ) → drop (length front) (front ++ back) ≡ back
 front_long [] back = refl
 front_long (c ∷ cs) back = front_long cs back
 
-pub behind_them : (text lines back : List ℕ) (es : List Entry) (audit : Audit) (n : ℕ) (h : HasLines text es audit) → lines ≡ behind_lines 1 text
-    → n ≡ length (journal_lines es) → back ≡ drop n lines → back ≡ h.more
-behind_them text lines back es audit n h are long is =
-    is ∙ (λ i. drop (long i) ((are ∙ h.lines) i)) ∙ front_long (journal_lines es) h.more
-
--- so what was found is told by it
-pub found_is : (text summary : List ℕ) (es : List Entry) (audit : Audit) (y : ℕ) → ((n : ℕ) → audit ≡ Legal n → summary ≡ summary_text es)
-    → found_by text summary audit y ≡ found_text text es audit y
-found_is text summary es (Legal n) y h = ap (λ s. lawful_text s n y) (h n refl)
-found_is text summary es (Wrong line rule) y h = refl
+pub lawful_texts_have_summaries : LawfulTextsHaveSummaries
+lawful_texts_have_summaries l text n es h = (
+  h.0.stuck,
+  h.0.are,
+  ap (drop (length (journal_lines es))) (legal_lines l text es h.0) ∙ front_long (journal_lines es) (summary_with h.0.stuck es),
+)

@@ -1,12 +1,14 @@
 -- What stands below the rows: what was found of a text, and the legend.
--- es are the entries that were read, summary is their summary text, n is their number, y where their rows end.
-use Rattle.std.specs.Prelude.{ℕ, ◌+◌, ◌-◌, ◌==◌, ◌||◌, if◌then◌else◌, List, [], ◌∷◌, ◌++◌, codes}
+-- es are the entries that were read, summary is what stands behind them, n is their number, y where their rows end.
+use Rattle.std.specs.Prelude.{ℕ, ◌+◌, ◌-◌, ◌==◌, ◌||◌, if◌then◌else◌, List, [], ◌∷◌, ◌++◌, codes, drop, length}
 use Rattle.std.specs.List.{flat_map}
 use Rattle.chorus_entry.specs.declared.entry.Entry.{Entry}
 use Rattle.chorus_show.specs.Phrases.{byte_text}
-use Rattle.chorus_show.specs.Summary.{summary_text}
+use Rattle.chorus_show.specs.Journal.{journal_lines}
+use Rattle.chorus_ui.specs.declared.layout.Layout.{Layout}
 use Rattle.chorus_audit.specs.declared.judging.Audit.{Audit}
 use Rattle.chorus_audit.specs.declared.judging.Audit.TheVariants.{Legal, Wrong}
+use Rattle.chorus_audit.specs.Tests.{IsRead, IsSummary}
 use Rattle.chorus_picture.specs.declared.style.TheConstants.{LEGEND}
 use Rattle.picture_texts.specs.Filling.{filled, markup, shown}
 use Rattle.chorus_picture.specs.RuleWords.{rule_words}
@@ -20,6 +22,16 @@ behind_lines n (c ∷ cs) = if n == 0 then c ∷ cs else behind_lines (if c == 1
 abbrev pub line_bytes : ℕ → List ℕ → List ℕ
 line_bytes n [] = []
 line_bytes n (c ∷ cs) = if (n == 0) || (c == 10) then [] else c ∷ line_bytes (n - 1) cs
+
+-- what stands behind the lines of these entries
+abbrev pub behind_entries : List ℕ → List Entry → List ℕ
+behind_entries text es = drop (length (journal_lines es)) (behind_lines 1 text)
+
+-- where all is lawful that is their summary
+abbrev pub LawfulTextsHaveSummaries : Type 0
+LawfulTextsHaveSummaries =
+    (l : Layout) (text : List ℕ) (n : ℕ) (es : List Entry) → IsRead l text (Legal n) es →
+    IsSummary es (behind_entries text es)
 
 -- all is lawful
 unfoldable pub lawful_front : ℕ → ℕ → List ℕ
@@ -47,7 +59,7 @@ found_by text summary (Legal n) y = lawful_text summary n y
 found_by text summary (Wrong line rule) y = wrong_text text line rule y
 
 abbrev pub found_text : List ℕ → List Entry → Audit → ℕ → List ℕ
-found_text text es audit y = found_by text (summary_text es) audit y
+found_text text es audit y = found_by text (behind_entries text es) audit y
 
 unfoldable pub foot_front : ℕ → List ℕ
 foot_front y = filled (codes "<g transform='translate(0 @)'>\n") ((y + 56) ∷ [])

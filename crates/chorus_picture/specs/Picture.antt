@@ -6,9 +6,7 @@ use Rattle.chorus_ui.specs.declared.layout.Layout.{Layout}
 use Rattle.chorus_entry.specs.declared.entry.Entry.{Entry}
 use Rattle.chorus_show.specs.Bounds.{AreWithin}
 use Rattle.chorus_show.specs.Journal.{journal_lines}
-use Rattle.chorus_show.specs.Summary.{summary_text}
 use Rattle.chorus_audit.specs.declared.judging.Audit.{Audit}
-use Rattle.chorus_audit.specs.declared.judging.Audit.TheVariants.{Legal}
 use Rattle.law_picture.specs.Bars.{bar}
 use Rattle.picture_rows.specs.Columns.{ColumnShape, columns}
 use Rattle.picture_rows.specs.Rows.{end_y}
@@ -36,10 +34,8 @@ picture_on l text es audit cs n =
 abbrev pub picture_text : Layout → List ℕ → List Entry → Audit → List ℕ
 picture_text l text es audit = picture_on l text es audit (columns l es) (length es)
 
--- What is known of a text of which an audit read these entries: behind its first line it has their lines, and where all
--- is lawful their summary behind these.
-pub record HasLines (text : List ℕ) (es : List Entry) (audit : Audit) : Type 0 where
+-- what is known of a text of which an audit read these entries: behind its first line it has their lines
+pub record HasLines (text : List ℕ) (es : List Entry) : Type 0 where
   pub within : AreWithin es
   pub more : List ℕ
   pub lines : behind_lines 1 text ≡ journal_lines es ++ more
-  pub summary : (n : ℕ) → audit ≡ Legal n → more ≡ summary_text es

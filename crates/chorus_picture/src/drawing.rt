@@ -5,8 +5,7 @@ ghost use Rattle.chorus_io.specs.Count.{Rose};
 ghost use Rattle.chorus_audit.specs.declared.limits.TheConstants.{AUDIT_LIMIT};
 ghost use Rattle.picture_rows.specs.declared.limits.TheConstants.{ENTRIES_LIMIT};
 ghost use Rattle.chorus_picture.specs.Output.{Draws, ReadsBy};
-ghost use Rattle.chorus_audit.specs.declared.judging.Audit.TheVariants.{Legal};
-ghost use Rattle.chorus_show.specs.Summary.{summary_text};
+ghost use Rattle.chorus_picture.specs.Found.{behind_entries};
 ghost use Rattle.chorus_picture.specs.Picture.{HasLines, behind_rows, ground, picture_text};
 ghost use Rattle.picture_rows.specs.Shapes.{arrow_text, each_row, marks_text};
 ghost use Rattle.chorus_show.specs.Bounds.{AreWithin};
@@ -76,7 +75,7 @@ fn drawn(
     audit: Audit,
 ) -> Result<Vec<u8>, AllocError>
     requires few { length entries.now ≤ ENTRIES_LIMIT }
-    requires lines { HasLines text.now entries.now audit }
+    requires lines { HasLines text.now entries.now }
     ensures { IfOk result (λ out. out.items ≡ picture_text layout text.now entries.now audit) }
 {
     let columns = columns(alloc, layout, entries)?;
@@ -132,8 +131,7 @@ fn push_layers(
     Ok(passed)
 }
 
-/// Appends all that a picture has behind its rows. Where all is lawful the summary is that of the
-/// entries.
+/// Appends all that a picture has behind its rows. The summary is what stands behind the entries.
 fn push_behind_rows(
     layout: Layout,
     text: &[u8],
@@ -144,7 +142,7 @@ fn push_behind_rows(
     out: &mut Vec<u8>,
 ) -> Result<(), AllocError>
     requires few { length entries.now ≤ ENTRIES_LIMIT }
-    requires summary { (n : ℕ) → audit ≡ Legal n → summary.now ≡ summary_text entries.now }
+    requires summary { summary.now ≡ behind_entries text.now entries.now }
     ensures { OnOk result (out.new.items ≡ out.old.items
         ++ behind_rows layout text.now entries.now audit columns.now (length entries.now)) }
 {

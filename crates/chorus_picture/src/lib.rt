@@ -2,8 +2,8 @@
 //!
 //! The layers above rest on this: [`picture`] reads what an audit reads, and writes exactly the bytes of a definition
 //! of the entries (`specs/Picture.antt`): its sheet, the rows of the entries (`picture_rows`), and what was found of
-//! the text. A text that is not lawful is drawn up to its first wrong line. Nothing that a journal says is read as
-//! markup (`picture_texts`).
+//! the text, of a lawful one its summary ([`a_lawful_text_has_its_summary`]). A text that is not lawful is drawn up to
+//! its first wrong line. Nothing that a journal says is read as markup (`picture_texts`).
 //!
 //! Begin with `drawing`. `sheet` and `below_rows` have what stands round the rows, `style` how it looks, and
 //! `rule_words` the rules of an audit in words, each beginning with the act that it refuses
@@ -19,5 +19,5 @@ mod sheet;
 mod style;
 
 pub use drawing::picture;
-pub use laws::rules_name_their_acts;
+pub use laws::{a_lawful_text_has_its_summary, rules_name_their_acts};
 pub use picture_rows::ENTRIES_LIMIT;

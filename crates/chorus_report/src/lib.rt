@@ -23,4 +23,4 @@ pub use laws::what_does_not_wait_is_played_whole;
 pub use played::Played;
 pub use reading::{read_scenario, read_without_awaits};
 pub use setup::setup_command;
-pub use writing::{Text, finish, print};
+pub use writing::{Text, finish, print, push_stuck_lines};

@@ -96,7 +96,7 @@ fn report_of(alloc: Global, closed: &Closed, stuck: &[Stuck]) -> Result<Vec<u8>,
 }
 
 /// Puts the lines of what is stuck before the end of a report.
-fn push_stuck_lines(stuck: &[Stuck], text: &mut Vec<u8>) -> Result<(), AllocError>
+pub fn push_stuck_lines(stuck: &[Stuck], text: &mut Vec<u8>) -> Result<(), AllocError>
     requires { IsEnded text.old.items }
     ensures { OnOk result ((front : List ℕ) → text.old.items ≡ front ++ codes "end\n" →
         text.new.items ≡ front ++ (flat_map stuck_line stuck.now ++ codes "end\n")) }

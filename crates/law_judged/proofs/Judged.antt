@@ -8,8 +8,7 @@ use Rattle.chorus_show.specs.declared.status.Status.{Status}
 use Rattle.chorus_show.specs.declared.status.Status.TheVariants.{Done, Usage, Scenario, ReadFault, WriteFault, Memory, Worn}
 use Rattle.chorus_show.specs.Bounds.{AreWithin}
 use Rattle.chorus_show.specs.Lines.{entry_text}
-use Rattle.chorus_show.specs.Report.{report}
-use Rattle.chorus_show.specs.Summary.{summary_text}
+use Rattle.chorus_show.specs.Report.{report_with, summary_with}
 use Rattle.chorus_net.specs.declared.closed.Closed.{Closed}
 use Rattle.chorus_net.specs.Closing.{merge_of, past_of}
 use Rattle.chorus_report.specs.Headline.{callers_of, AreWithinUnless}
@@ -39,50 +38,58 @@ within-both (Worn clock) closed h worn = worn clock refl
 -- One text is the report of one list.
 
 module _ (l : Layout) (text : List ℕ) (es ds : List Entry) (he : IsReport l text es) (hd : IsReport l text ds) where
-  same-texts : head (length es) ++ (flat_map entry_text es ++ summary_text es) ≡ head (length ds) ++ (flat_map entry_text ds ++ summary_text ds)
+  abbrev behind-es : List ℕ
+  behind-es = summary_with he.stuck es
+
+  abbrev behind-ds : List ℕ
+  behind-ds = summary_with hd.stuck ds
+
+  same-texts : head (length es) ++ (flat_map entry_text es ++ behind-es) ≡ head (length ds) ++ (flat_map entry_text ds ++ behind-ds)
   same-texts =
-      sym (append_assoc (head (length es)) (flat_map entry_text es) (summary_text es))
+      sym (append_assoc (head (length es)) (flat_map entry_text es) behind-es)
       ∙ sym he.is
       ∙ hd.is
-      ∙ append_assoc (head (length ds)) (flat_map entry_text ds) (summary_text ds)
+      ∙ append_assoc (head (length ds)) (flat_map entry_text ds) behind-ds
 
-  both : (length es ≡ length ds) × (flat_map entry_text es ++ summary_text es ≡ flat_map entry_text ds ++ summary_text ds)
-  both = one_head (length es) (length ds) (flat_map entry_text es ++ summary_text es) (flat_map entry_text ds ++ summary_text ds) he.number hd.number same-texts
+  both : (length es ≡ length ds) × (flat_map entry_text es ++ behind-es ≡ flat_map entry_text ds ++ behind-ds)
+  both = one_head (length es) (length ds) (flat_map entry_text es ++ behind-es) (flat_map entry_text ds ++ behind-ds) he.number hd.number same-texts
 
   longer : (xs : List Entry) (e : Entry) (tail : List Entry) → length xs ≡ length (xs ++ e ∷ tail) → ⊥
   longer xs e tail h = let k = length-append xs (e ∷ tail) in omega (arith, h, k)
 
-  by-lists : Compared es (summary_text es) ds (summary_text ds) → es ≡ ds
+  by-lists : Compared es behind-es ds behind-ds → es ≡ ds
   by-lists (Same same rest) = same
   by-lists (Fewer e tail is rest) = absurd (longer es e tail (both.0 ∙ ap (λ (xs : List Entry). length xs) is))
   by-lists (More e tail is rest) = absurd (longer ds e tail (sym both.0 ∙ ap (λ (xs : List Entry). length xs) is))
 
   pub one_list : es ≡ ds
-  one_list = by-lists (compared es ds (summary_text es) (summary_text ds) he.within hd.within both.1)
+  one_list = by-lists (compared es ds behind-es behind-ds he.within hd.within both.1)
 
 read-legal : (l : Layout) (text : List ℕ) (audit : Audit) (es : List Entry) (n : ℕ) → audit ≡ Legal n → IsRead l text audit es → IsReport l text es
 read-legal l text (Legal m) es n same h = h.0
 read-legal l text (Wrong line rule) es n same h = absurd cc
 
 pub judged_a_run : WhatIsPrintedIsJudgedARun
-judged_a_run l told status closed shape h worn few judgement said judged = by-audit judged.audit refl
+judged_a_run l told status closed shape h worn few stuck may judgement said judged = by-audit judged.audit refl
   where
     es : List Entry
     es = merge_of closed
 
-    report-is : IsReport l (report es) es
+    report-is : IsReport l (report_with stuck es) es
     report-is = record {
       number = few;
       within = within-both status closed h.within worn;
       legal = runs-are-legal l (callers_of h.scene) (past_of closed) h.plays.run;
+      stuck = stuck;
+      are = may;
       is = refl;
     }
 
     audit-is : judged.audit ≡ Legal (length es)
-    audit-is = texts_have_one_verdict l (report es) judged.audit (Legal (length es)) (verdict_of l (report es) judged.audit judged.entries judged.read) (es, report-is, refl)
+    audit-is = texts_have_one_verdict l (report_with stuck es) judged.audit (Legal (length es)) (verdict_of l (report_with stuck es) judged.audit judged.entries judged.read) (es, report-is, refl)
 
     entries-are : judged.entries ≡ es
-    entries-are = one_list l (report es) judged.entries es (read-legal l (report es) judged.audit judged.entries (length es) audit-is judged.read) report-is
+    entries-are = one_list l (report_with stuck es) judged.entries es (read-legal l (report_with stuck es) judged.audit judged.entries (length es) audit-is judged.read) report-is
 
     none : first_out l (past_of closed) ≡ None
     none = runs_none_out l (past_of closed) (

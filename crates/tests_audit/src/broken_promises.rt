@@ -8,12 +8,18 @@ use std::process::Abort;
 
 /// The lines of the entries of a journal, of which the last one alone breaks a promise, and the line that is told of
 /// that. Each condition fails first in some of them; the two that all verdicts of a port share, where one is accepted.
-const BROKEN: [(&str, &str); 60] = [
+const BROKEN: [(&str, &str); 62] = [
     (
         "\
 1 4 0 make 1.p.1 1.a.1 2
 ",
         "wrong line 2 rule 0 condition 1",
+    ),
+    (
+        "\
+0 1 0 make 1.p.1 1.a.1 2
+",
+        "wrong line 2 rule 0 condition 2",
     ),
     (
         "\
@@ -77,6 +83,13 @@ const BROKEN: [(&str, &str); 60] = [
 3 1 1 post 1:1:0 port 1.p.1 plain =a
 ",
         "wrong line 4 rule 5 condition 2 line 3",
+    ),
+    (
+        "\
+1 1 0 make 1.p.1 1.a.1 2
+2 1 1 post 1:0:0 port 1.p.1 plain =a
+",
+        "wrong line 3 rule 5 condition 2",
     ),
     (
         "\

@@ -38,7 +38,7 @@ pub(crate) const NOTHING_DRAWN: &str = "\
 <text x='8' y='71'>0 entries, all lawful</text><text class='sum' x='8' y='89'>summary posted 0 accepted 0 taken 0 queued 0 moving 0 refused 0 stale 0 departs 0 end </text>\n\
 ";
 
-/// A message comes where its port has left, and is tried again.
+/// A message comes where its port has left, and is tried again. Script 3 is stuck.
 pub(crate) const STALE: &str = "\
 journal 10\n\
 1 1 0 make 1.p.1 1.a.1 4\n\
@@ -60,6 +60,7 @@ moving 0\n\
 refused 0\n\
 stale 1\n\
 departs 1\n\
+stuck 3 1\n\
 end\n\
 ";
 
@@ -106,7 +107,7 @@ pub(crate) const STALE_DRAWN: &str = "\
 <text class='head' x='236' y='16'>site 2</text><text class='head' x='236' y='32'>place 2</text>\n\
 <text class='name' transform='rotate(-90 261 38)' x='261' y='38'>1.p.1</text>\n\
 <text class='head' x='338' y='16'>site 3</text><text class='head' x='338' y='32'>place 3</text>\n\
-<text x='8' y='251'>10 entries, all lawful</text><text class='sum' x='8' y='269'>summary posted 1 accepted 1 taken 0 queued 1 moving 0 refused 0 stale 1 departs 1 end </text>\n\
+<text x='8' y='251'>10 entries, all lawful</text><text class='sum' x='8' y='269'>summary posted 1 accepted 1 taken 0 queued 1 moving 0 refused 0 stale 1 departs 1 stuck 3 1 end </text>\n\
 ";
 
 /// A setup of two lines, a message whose body is cut, and a sixth line that is none that may stand there.

@@ -308,6 +308,33 @@ fn judges_journals(rt: HostRuntime) {
     }
 }
 
+/// The text with the lines of scripts that are stuck before its end, which is to be judged.
+fn with_stuck(rt: &impl Abort, alloc: Global, text: &str, stuck: &str) -> String {
+    let mut out = String::new(alloc);
+    let front = text.strip_suffix("end\n").expect(rt, "an end");
+    write!(out, "{front}{stuck}end\n").expect(rt, "memory");
+    out
+}
+
+/// Scripts that may be stuck change nothing of what is told; one that may not is a wrong line.
+#[test]
+fn judges_what_is_stuck(rt: HostRuntime) {
+    for (stuck, judgement, told) in [
+        ("stuck 2 1\n", Judgement::Quiet, "run 0\nopen 0\n"),
+        (
+            "stuck 2 2\n",
+            Judgement::Wrong,
+            "wrong line 11 rule 99\nopen 0\n",
+        ),
+    ] {
+        let text = journal_of(&rt, rt.alloc(), "");
+        let text = with_stuck(&rt, rt.alloc(), text.as_str(), stuck);
+        let found = judged(&rt, rt.alloc(), eight_sites(), text.as_str(), 0, 64, 0);
+        assert_eq!(&rt; found.written.as_str(), told, "{stuck}");
+        assert!(&rt; found.ended == Ok(judgement), "{stuck}");
+    }
+}
+
 /// The numbers by which a program ends.
 #[test]
 fn each_judgement_has_its_number(rt: HostRuntime) {

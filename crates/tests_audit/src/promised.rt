@@ -133,3 +133,53 @@ fn judges_by_promises(rt: HostRuntime) {
         assert!(&rt; found.ended == Ok(judgement), "{name}");
     }
 }
+
+/// Texts, each with a line that may not stand there, and what is told of them.
+const STOPPED: [(&str, &str); 6] = [
+    ("", "wrong line 1 rule 99\nopen 0\n"),
+    ("journal 0\n", "wrong line 2 rule 99\nopen 0\n"),
+    (
+        "journal 1\n1 1 0 make 1.p.1 1.a.1 1",
+        "wrong line 2 rule 99\nopen 0\n",
+    ),
+    (
+        "\
+journal 3
+1 1 0 make 1.p.1 1.a.1 1
+2 2 1 post 1:1:0 port 1.p.1 plain =a
+03 1 0 accept 1:1:0 1.p.1 0
+",
+        "\
+wrong line 4 rule 99
+open 1
+line 3 message 1:1:0 without verdict
+",
+    ),
+    (
+        "\
+journal 1
+1 1 0 make 1.p.1 1.a.1 1
+summary
+posted 1
+",
+        "wrong line 4 rule 99\nopen 0\n",
+    ),
+    (
+        "\
+journal 2
+1 4 0 make 1.p.1 1.a.1 1
+no entry
+",
+        "wrong line 2 rule 0 condition 1\nopen 0\n",
+    ),
+];
+
+/// By promises too a text stops at the first line that may not stand there, unless a promise is broken in front of it.
+#[test]
+fn stops_where_no_line_may_stand(rt: HostRuntime) {
+    for (text, told) in STOPPED {
+        let found = judged_as(&rt, rt.alloc(), asked(), text, 0, 64, 0);
+        assert_eq!(&rt; found.written.as_str(), told, "{text}");
+        assert!(&rt; found.ended == Ok(Judgement::Wrong), "{text}");
+    }
+}

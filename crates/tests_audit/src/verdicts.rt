@@ -1,7 +1,7 @@
 //! Whole texts, and what an audit finds.
 //!
-//! A row has a text, in which `;` stands for the end of a line and `$` for the summary of nothing, then `|`, and what an audit finds: `legal`
-//! and how many entries there are, or `wrong`, the line and the rule.
+//! A row has a text, in which `;` stands for the end of a line, `#` for the summary of nothing before its end, and `$` for all of it, then
+//! `|`, and what an audit finds: `legal` and how many entries there are, or `wrong`, the line and the rule.
 
 use chorus_audit::{AUDIT_LIMIT, Audit, audit_text};
 use chorus_ui::Layout;
@@ -9,7 +9,9 @@ use std::alloc::Global;
 use std::process::Abort;
 
 const NOTHING: &str =
-    "summary\nposted 0\naccepted 0\ntaken 0\nqueued 0\nmoving 0\nrefused 0\nstale 0\ndeparts 0\nend\n";
+    "summary\nposted 0\naccepted 0\ntaken 0\nqueued 0\nmoving 0\nrefused 0\nstale 0\ndeparts 0\n";
+
+const END: &str = "end\n";
 
 /// What an audit finds for eight sites with so many places each.
 fn found(rt: &impl Abort, alloc: Global, turns: u16, text: &[u8]) -> Audit {
@@ -32,7 +34,11 @@ fn told_of(rt: &impl Abort, alloc: Global, turns: u16, text: &str) -> String {
 fn push_part(rt: &impl Abort, text: &mut String, c: char) {
     let told = match c {
         ';' => text.push('\n'),
-        '$' => text.push_str(NOTHING),
+        '#' => text.push_str(NOTHING),
+        '$' => {
+            text.push_str(NOTHING).expect(rt, "memory");
+            text.push_str(END)
+        }
         _ => text.push(c),
     };
     told.expect(rt, "memory");
@@ -63,7 +69,7 @@ fn assert_rows(rt: &impl Abort, alloc: Global, name: &str, turns: u16, rows: &st
 }
 
 /// Rows under a name, which tells what they are about, and how many places each site has for them.
-const ROWS: [(&str, u16, &str); 7] = [
+const ROWS: [(&str, u16, &str); 8] = [
     // a full port, and a message that it cannot have accepted
     (
         "audit_finds_the_line",
@@ -110,6 +116,28 @@ journal 0;summary;posted 0;accepted 0;taken 0;queued 0;moving 0;refused 0;stale 
 journal 0;$;|wrong 12 99
 journal 0;$end;|wrong 12 99
 journal 0;summary;posted 2;accepted 1;taken 1;queued 0;moving 0;refused 1;stale 0;departs 0;end;|wrong 3 99
+",
+    ),
+    // script 1 gave one command, and the others gave none
+    (
+        "scripts_that_are_stuck_have_their_lines",
+        1,
+        "\
+journal 1;1 1 1 make 1.p.1 1.a.1 1;#stuck 1 2;end;|legal 1
+journal 1;1 1 1 make 1.p.1 1.a.1 1;#stuck 1 2;stuck 3 1;stuck 4294967295 1;end;|legal 1
+journal 1;1 1 1 make 1.p.1 1.a.1 1;#stuck 1 1;end;|wrong 12 99
+journal 1;1 1 1 make 1.p.1 1.a.1 1;#stuck 1 3;end;|wrong 12 99
+journal 1;1 1 1 make 1.p.1 1.a.1 1;#stuck 0 1;end;|wrong 12 99
+journal 1;1 1 1 make 1.p.1 1.a.1 1;#stuck 4294967296 1;end;|wrong 12 99
+journal 1;1 1 1 make 1.p.1 1.a.1 1;#stuck 2 1;stuck 1 2;end;|wrong 13 99
+journal 1;1 1 1 make 1.p.1 1.a.1 1;#stuck 1 2;stuck 1 2;end;|wrong 13 99
+journal 1;1 1 1 make 1.p.1 1.a.1 1;#stuck 1 2;stuck 2 2;end;|wrong 13 99
+journal 1;1 1 1 make 1.p.1 1.a.1 1;#stuck 01 2;end;|wrong 12 99
+journal 1;1 1 1 make 1.p.1 1.a.1 1;#stuck 1 2|wrong 12 99
+journal 1;1 1 1 make 1.p.1 1.a.1 1;#stuck 1 2;|wrong 13 99
+journal 1;1 1 1 make 1.p.1 1.a.1 1;#stuck 1 2;end;end;|wrong 14 99
+journal 1;1 1 1 make 1.p.1 1.a.1 1;$stuck 1 2;|wrong 13 99
+journal 0;summary;stuck 1 1;posted 0;|wrong 3 99
 ",
     ),
     // ports of places that a layout has, or has not

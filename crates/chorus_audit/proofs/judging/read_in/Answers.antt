@@ -3,7 +3,7 @@ use Rattle.chorus_world.specs.Steps.{State}
 use Rattle.chorus_audit.specs.declared.judging.Audit.TheVariants.{Wrong}
 use Rattle.chorus_audit.specs.Tests.{IsRead}
 use Rattle.chorus_audit.specs.Reads.{IsReading}
-use Rattle.chorus_audit.proofs.Steps.{Found, found_next, legal_end, stop_end, summary_end}
+use Rattle.chorus_audit.proofs.Steps.{Found, few, found_next, legal_end, stop_end, summary_end}
 use Rattle.chorus_audit.proofs.judging.read_in.Goals as goal
 
 pub loop-taken-preserved : goal.loop-taken-preserved
@@ -21,6 +21,13 @@ returns-in-Err-NotLegal c =
           (rw stop.field-0-is at stop.ensures.read)));
       layout_is = ap (λ (w : State). w.layout) stop.ensures.unchanged ∙ c.loop-taken.invariant.layout_is;
     })
+
+pub summary_fault-requires-clause-few : goal.summary_fault-requires-clause-few
+summary_fault-requires-clause-few c =
+    let all : c.loop-taken.taken ≡ c.in-Some.count = omega arith in
+    few c.args.layout c.args.text.now c.in-Some.count c.loop-taken.world c.loop-taken.rest.now c.entries.result.now
+    (subst (λ n. Found c.args.layout c.args.text.now c.in-Some.count c.loop-taken.world c.loop-taken.rest.now n) all c.loop-taken.invariant)
+    c.entries.ensures.value c.requires
 
 pub returns-in-None : goal.returns-in-None
 returns-in-None c =
@@ -41,6 +48,6 @@ returns-in-Some-2 c =
       read =
           summary_end c.args.layout c.args.text.now c.in-Some.count c.loop-taken.world c.loop-taken.rest.now c.entries.result.now
           (subst (λ n. Found c.args.layout c.args.text.now c.in-Some.count c.loop-taken.world c.loop-taken.rest.now n) all c.loop-taken.invariant)
-          c.entries.ensures.value c.in-Some-2.shared fault.0 fault.1;
+          c.entries.ensures.value c.in-Some-2.shared fault.0;
       layout_is = c.loop-taken.invariant.layout_is;
     })

@@ -1,7 +1,6 @@
-use Rattle.std.proofs.Common.{length, ap, ◌∙◌, arith}
+use Rattle.std.proofs.Common.{length, ap, ◌∙◌, arith, drop}
 use Rattle.std.proofs.lemmas.List.{length-append}
 use Rattle.chorus_show.specs.Journal.{journal_lines}
-use Rattle.chorus_picture.proofs.Lines.{behind_them}
 use Rattle.chorus_picture.proofs.drawing.drawn.Goals as goal
 
 pub push_layers-requires-clause-within : goal.push_layers-requires-clause-within
@@ -17,7 +16,4 @@ split_at-requires c =
 
 pub push_behind_rows-requires-clause-summary : goal.push_behind_rows-requires-clause-summary
 push_behind_rows-requires-clause-summary c =
-    λ n legal.
-    behind_them c.args.text.now c.behind_lines-lines.result.now c.split_at.result.1.now c.args.entries.now c.args.audit c.in_ok-passed.passed c.requires.lines
-    c.behind_lines-lines.ensures c.in_ok-passed.ensures.lines c.split_at.ensures.back
-    ∙ c.requires.lines.summary n legal
+    c.split_at.ensures.back ∙ (λ i. drop (c.in_ok-passed.ensures.lines i) (c.behind_lines-lines.ensures i))

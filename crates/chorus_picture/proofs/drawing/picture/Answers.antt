@@ -10,7 +10,7 @@ use Rattle.chorus_picture.proofs.drawing.picture.Goals as goal
 
 pub drawn-requires-clause-lines : goal.drawn-requires-clause-lines
 drawn-requires-clause-lines g c =
-    subst (λ es. HasLines c.deref-2.result.now es c.in-Ok-read_text.reading.audit) (sym c.entries-entries.ensures.value)
+    subst (λ es. HasLines c.deref-2.result.now es) (sym c.entries-entries.ensures.value)
     (has_lines c.args.layout c.deref-2.result.now c.in-Ok-read_text.reading.audit (reverse c.in-Ok-read_text.reading.world.past)
     (subst (λ t. IsRead c.args.layout t c.in-Ok-read_text.reading.audit (reverse c.in-Ok-read_text.reading.world.past)) (c.deref.ensures.value ∙ sym c.deref-2.ensures.value) c.in-Ok-read_text.ensures))
 
