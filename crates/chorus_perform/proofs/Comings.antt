@@ -1,12 +1,12 @@
 -- The passes of scripts come and run.
-use Rattle.std.specs.Result.{OnOk, OnErr, is_ok}
-use Rattle.std.proofs.Common.{ℕ, zero, suc, ◌≡◌, ◌+◌, ◌<◌, nat_le, ◌&&◌, Bool, true, false, List, [], ◌∷◌, ◌++◌, length, Some, Result, Ok, Err, slice_get, slice_index_or, refl, sym, ◌∙◌, ap, subst, inl, inr, arith}
-use Rattle.std.specs.List.{list_all}
+use Rattle.std.specs.Result.{OnOk, OnErr, IfOk}
+use Rattle.std.proofs.Common.{ℕ, zero, suc, ◌≡◌, ◌+◌, ◌<◌, nat_le, nat_lt, ◌&&◌, ◌||◌, Bool, true, false, List, [], ◌∷◌, ◌++◌, length, Some, Result, Ok, Err, slice_get, slice_index_or, refl, sym, ◌∙◌, ap, subst, inl, inr, arith}
+use Rattle.std.specs.List.{All, list_all, list_any}
 use Rattle.std.proofs.lemmas.Bool.{and_parts, cases_lt, leb-true, false≢true}
 use Rattle.std.proofs.lemmas.Option.{slice_get_read}
 use Rattle.std.proofs.lemmas.List.{append-nil, length-append, get_or_append_left}
 use Rattle.std.proofs.Math.Seq.{get_or-append_seam}
-use Rattle.std.proofs.lemmas.List.Elements.{All-nil, All-cons}
+use Rattle.std.proofs.lemmas.List.Elements.{All-nil, All-cons, All-head, All-tail}
 use Rattle.chorus_ui.specs.declared.ui.Ui.{Ui}
 use Rattle.chorus_ui.specs.declared.layout.Layout.{Layout}
 use Rattle.chorus_ui.specs.Layout.{has_actor}
@@ -20,6 +20,7 @@ use Rattle.chorus_scene.specs.Scene.{Scene, Script}
 use Rattle.chorus_scene.specs.declared.limits.TheConstants.{COMMANDS_LIMIT}
 use Rattle.chorus_scene.specs.Limits.{Keeps, script_keeps, command_keeps, command_is_of, is_of_version, is_actor_of, is_site, bytes_sent}
 use Rattle.chorus_scene.specs.Grammar.{most_bytes}
+use Rattle.chorus_report.specs.Reading.{has_wait}
 use Rattle.chorus_nucleus.specs.declared.nucleus.Nucleus.{Nucleus}
 use Rattle.chorus_nucleus.specs.declared.pass.Pass.{Pass}
 use Rattle.chorus_nucleus.specs.Passes.{known, caller_of, worn_by, IsPassOf}
@@ -28,7 +29,7 @@ use Rattle.chorus_perform.specs.declared.runner.Runner.{Runner}
 use Rattle.chorus_perform.specs.declared.stopped.Halted.{Halted}
 use Rattle.chorus_perform.specs.Going.{Goes, GoesAsFar, MayPost, AllMeet}
 use Rattle.chorus_perform.specs.Halting.{IsHalted}
-use Rattle.chorus_perform.specs.Runners.{AreReady, AreEntered, HasEntered, IsNew, IsReadyAt, HasRunAt}
+use Rattle.chorus_perform.specs.Runners.{AreReady, AreEntered, HasEntered, IsNew, IsReadyAt, HasRunAt, WholeUnless}
 
 -- A script of the scenario.
 
@@ -74,31 +75,58 @@ module _ (c : Scene) (keeps : Keeps c) (i : ℕ) (script : Script) (at : slice_g
 
 -- It runs.
 
-pub has-run : (n : Nucleus) (c : Scene) (i : ℕ) (script : Script) (a : Runner) (d : Pass) (cs : List Command) (r : Result (Unit {0}) Halted) (b : Bool) → slice_get c.scripts i ≡ Some script → b ≡ is_ok r → IsPassOf n d → cs ≡ script.commands → OnOk r (Goes cs a.pass d) → OnErr r (GoesAsFar cs a.pass d) → OnOk r (worn_by d ≡ worn_by a.pass) → OnErr r (IsHalted n d) → HasRunAt n c i a (record { pass = d; done = b })
-has-run n c i script a d cs (Ok u) b at is pass same ok err unworn halted = record {
-  pass = pass;
-  script = script;
-  is = at;
-  given = cs;
-  left = [];
-  whole = sym same ∙ sym (append-nil cs);
-  goes = ok;
-  all = λ e. refl;
-  unworn = λ e. unworn;
-  halted = λ e. absurd (false≢true (sym e ∙ is));
-}
-has-run n c i script a d cs (Err e) b at is pass same ok err unworn halted = record {
-  pass = pass;
-  script = script;
-  is = at;
-  given = err.given;
-  left = err.left;
-  whole = sym same ∙ err.whole;
-  goes = err.goes;
-  all = λ e. absurd (false≢true (sym is ∙ e));
-  unworn = λ e. absurd (false≢true (sym is ∙ e));
-  halted = λ e. halted;
-}
+-- where nothing waits, no script does
+some-wait : (scripts : List Script) → All (λ (s : Script). s.waits ≡ []) scripts → list_any (λ (s : Script). nat_lt 0 (length s.waits)) scripts ≡ false
+some-wait [] none = refl
+some-wait (s ∷ scripts) none =
+    ap (λ (is : List ℕ). nat_lt 0 (length is) || list_any (λ (z : Script). nat_lt 0 (length z.waits)) scripts) (All-head (λ (z : Script). z.waits ≡ []) s scripts none)
+    ∙ some-wait scripts (All-tail (λ (z : Script). z.waits ≡ []) s scripts none)
+
+pub has-run : (n : Nucleus) (c : Scene) (i : ℕ) (script : Script) (a : Runner) (d : Pass) (r : Result Bool Halted) (waits : Bool) → slice_get c.scripts i ≡ Some script → IsPassOf n d → (r ≡ Ok true → Goes script.commands a.pass d) → GoesAsFar script.commands a.pass d
+    → waits ≡ has_wait c → (waits ≡ false → IfOk r (λ all. all ≡ true)) → OnOk r (worn_by d ≡ worn_by a.pass) → OnErr r (IsHalted n d) → HasRunAt n c i a (record { pass = d; ended = r })
+has-run n c i script a d r waits at pass whole first asked plain unworn halted =
+    let none : WholeUnless c r = λ no. plain (asked ∙ some-wait c.scripts no) in by r whole none unworn halted
+  where
+    by : (r : Result Bool Halted) → (r ≡ Ok true → Goes script.commands a.pass d) → WholeUnless c r → OnOk r (worn_by d ≡ worn_by a.pass) → OnErr r (IsHalted n d) → HasRunAt n c i a (record { pass = d; ended = r })
+    by (Ok true) whole none unworn halted = record {
+      pass = pass;
+      script = script;
+      is = at;
+      given = script.commands;
+      left = [];
+      whole = sym (append-nil script.commands);
+      goes = whole refl;
+      all = λ e. refl;
+      plain = none;
+      unworn = unworn;
+      halted = halted;
+    }
+    by (Ok false) whole none unworn halted = record {
+      pass = pass;
+      script = script;
+      is = at;
+      given = first.given;
+      left = first.left;
+      whole = first.whole;
+      goes = first.goes;
+      all = λ e. absurd (false≢true e);
+      plain = none;
+      unworn = unworn;
+      halted = halted;
+    }
+    by (Err e) whole none unworn halted = record {
+      pass = pass;
+      script = script;
+      is = at;
+      given = first.given;
+      left = first.left;
+      whole = first.whole;
+      goes = first.goes;
+      all = λ e. absurd (false≢true e);
+      plain = none;
+      unworn = unworn;
+      halted = halted;
+    }
 
 -- It comes.
 
@@ -128,10 +156,10 @@ entered-same a b d k e is same worn = record {
   worn = worn ∙ e.worn;
 }
 
-pub new-ready : (n : Nucleus) (c : Scene) (i : ℕ) (script : Script) (actor : Ui) (b d p : Pass) → slice_get c.scripts i ≡ Some script → i < length c.scripts → Enters n actor b d p → (known b).made ≡ i + 1 → actor ≡ script.actor → IsReadyAt n c i (record { pass = p; done = false })
-new-ready n c i script actor b d p at lt new made who = record {
+pub new-ready : (halted : Halted) (n : Nucleus) (c : Scene) (i : ℕ) (script : Script) (actor : Ui) (b d p : Pass) → slice_get c.scripts i ≡ Some script → i < length c.scripts → Enters n actor b d p → (known b).made ≡ i + 1 → actor ≡ script.actor → IsReadyAt n c i (record { pass = p; ended = Err halted })
+new-ready halted n c i script actor b d p at lt new made who = record {
   inside = lt;
-  begins = refl;
+  begins = tt;
   pass = new.pass;
   new = λ other found. record {
     seat_is = ap (λ (v : Knowledge PlaceNote). v.seat) new.knows ∙ made;

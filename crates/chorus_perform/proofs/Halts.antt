@@ -14,7 +14,7 @@ use Rattle.chorus_nucleus.specs.Passes.{worn_by}
 use Rattle.chorus_perform.specs.declared.stopped.Halted.{Halted}
 use Rattle.chorus_perform.specs.Halting.{Halts, IsHalted}
 
-worn-kept : {T : Type 0} (o : Option ℕ) (r : Result T CallFault) → (Halts r → ⊥) → worn_after o r ≡ o
+pub worn-kept : {T : Type 0} (o : Option ℕ) (r : Result T CallFault) → (Halts r → ⊥) → worn_after o r ≡ o
 worn-kept (Some clock) r h = refl
 worn-kept None (Ok x) h = refl
 worn-kept None (Err (faults.Busy by)) h = refl

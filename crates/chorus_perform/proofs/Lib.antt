@@ -5,3 +5,4 @@ pub mod Comings
 pub mod Leavings
 pub mod Opening
 mod Examples
+pub mod Readies

@@ -1,13 +1,14 @@
 -- A pass goes on by one call more.
 use Rattle.std.specs.Result.{OnOk, OnErr}
-use Rattle.std.proofs.Common.{ℕ, zero, suc, take, take_all, drop, slice_index_or, Result, Ok, Err, ◌≡◌, ◌+◌, ◌<◌, ◌≤◌, List, [], ◌∷◌, ◌++◌, length, refl, sym, ◌∙◌, ap, subst, inl, inr, arith, append_assoc}
+use Rattle.std.proofs.Common.{ℕ, zero, suc, take, take_all, drop, slice_index_or, Some, None, Result, Ok, Err, ◌≡◌, ◌+◌, ◌<◌, ◌≤◌, true, List, [], ◌∷◌, ◌++◌, length, refl, sym, ◌∙◌, ap, subst, inl, inr, arith, append_assoc}
 use Rattle.std.proofs.lemmas.List.{append-nil, length-append, take_more}
-use Rattle.std.proofs.lemmas.List.Elements.{All-nil, All-cons, All-append}
+use Rattle.std.proofs.lemmas.List.Elements.{All-nil, All-cons, All-head, All-tail, All-append}
 use Rattle.chorus_ui.specs.declared.ui.Ui.{Ui}
 use Rattle.chorus_ui.specs.declared.layout.Layout.{Layout}
 use Rattle.chorus_entry.specs.declared.entry.Entry.{Entry}
 use Rattle.chorus_entry.specs.declared.command.Command.{Command}
 use Rattle.chorus_entry.specs.declared.packet.Packet.{Packet}
+use Rattle.chorus_entry.specs.Command.{meets_conditions}
 use Rattle.chorus_calls.specs.Callers.{Seated, raised}
 use Rattle.chorus_world.specs.Places.{last_clock}
 use Rattle.chorus_nucleus.proofs.Behind.{more-up}
@@ -33,8 +34,9 @@ use Rattle.chorus_nucleus.specs.declared.pass.Pass.{Pass}
 use Rattle.chorus_nucleus.specs.declared.fault.CallFault.{CallFault}
 use Rattle.chorus_nucleus.specs.Passes.{layout_of, known, caller_of}
 use Rattle.chorus_nucleus.specs.Calls.{gave, IsCall, IsServe, Serves}
+use Rattle.chorus_nucleus.specs.Ready.{IsReadyTake}
 use Rattle.law_closing.specs.Actors.{AreIn}
-use Rattle.chorus_perform.specs.Going.{Goes, GoesAsFar, Rises, BeginAbove, BeginsUpTo, CommandsUpTo}
+use Rattle.chorus_perform.specs.Going.{AllMeet, Goes, GoesAsFar, Rises, BeginAbove, BeginsUpTo, CommandsUpTo}
 
 abbrev IsIn : Ui → Placed PlaceNote → Type 0
 IsIn actor m = m.remarked.remark.before.actor ≡ actor
@@ -223,6 +225,20 @@ goes-serve n p a b (Err f) h = record {
   rises = rises-none a b h.refused.mine (more-up (caller_of a) (caller_of b) h.refused.caller);
 }
 
+-- a take that was not made, since no message waited
+pub goes-looked : (n : Nucleus) (q : Ui) (a b : Pass) → IsReadyTake n q (Ok None) a b → Goes [] a b
+goes-looked n q a b h =
+    let look = h.answer.1 in
+    let mine = look-mine _ _ h.answer.0 (known a) (caller_of a) (known b) (caller_of b) look in
+    record {
+      gave_is = h.gave_is ∙ sym (append-nil (gave (known a)));
+      within = same-in (caller_of a).actor (known a).mine (known b).mine mine;
+      same = h.standing;
+      actor = h.grows.actor;
+      posts = (let e = ap (λ (w : Seated). w.posts) look.after in omega (arith, e));
+      rises = rises-none a b mine (look-up h.answer.0 (caller_of a) (caller_of b) look.after);
+    }
+
 -- Of a list of commands, one more.
 
 pub on-ok : {A E : Type 0} (r : Result A E) (P : Type 0) → P → OnOk r P
@@ -244,6 +260,16 @@ first-of commands i a b g = record { given = take i commands; left = drop i comm
 pub step-more : (commands : List Command) (i : ℕ) (x : Command) (a b d : Pass) → i < length commands → x ≡ slice_index_or commands i x → Goes (take i commands) a b → Goes (x ∷ []) b d → Goes (take (i + 1) commands) a d
 step-more commands i x a b d lt is g h =
     subst (λ ys. Goes ys a d) (sym (take_more commands i x lt ∙ ap (λ y. take i commands ++ y ∷ []) (sym is))) (goes-then (take i commands) (x ∷ []) a b d g h)
+
+-- each of them meets its conditions, also where they are read from elsewhere
+pub meets-at : (xs ys : List Command) (i : ℕ) (x : Command) → xs ≡ ys → AllMeet ys → i < length xs → x ≡ slice_index_or xs i x → meets_conditions x ≡ true
+meets-at xs ys i x same all lt is =
+    at ys i (subst (λ zs. i < length zs) same lt) all (is ∙ ap (λ zs. slice_index_or zs i x) same)
+  where
+    at : (ys : List Command) (i : ℕ) → i < length ys → AllMeet ys → x ≡ slice_index_or ys i x → meets_conditions x ≡ true
+    at [] i lt all is = absurd (omega (arith, lt))
+    at (y ∷ ys) zero lt all is = ap meets_conditions is ∙ All-head (λ (c : Command). meets_conditions c ≡ true) y ys all
+    at (y ∷ ys) (suc i) lt all is = at ys i (omega (arith, lt)) (All-tail (λ (c : Command). meets_conditions c ≡ true) y ys all) is
 
 -- all of them
 pub goes-whole : (commands : List Command) (i : ℕ) (a b d : Pass) → length commands ≤ i → Goes (take i commands) a b → Goes [] b d → Goes commands a d

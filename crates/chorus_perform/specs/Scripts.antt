@@ -48,6 +48,10 @@ pub record IsPerformedBy (all : Bool) (actor : Ui) (commands : List Command)
   pub within : AreIn actor mine
   pub none_left : all ≡ true → left ≡ []
 
+-- what a pass made performed all of the setup
+abbrev pub PerformsSetup : Scene → List (Placed PlaceNote) → Type 0
+PerformsSetup c mine = IsPerformedBy true first_actor (setup_commands c) mine
+
 -- the note is that of the pass of a script
 pub record IsOfScript (all : Bool) (c : Scene) (i : ℕ) (note : Note PlaceNote) : Type 0 where
   pub script : Script

@@ -5,7 +5,7 @@ ghost use Rattle.std.specs.Vec.{vec_len, vec_capacity};
 ghost use Rattle.chorus_nucleus.specs.Passes.{caller_of, known, IsPassOf};
 ghost use Rattle.chorus_nucleus.specs.Coming.{Retires};
 ghost use Rattle.chorus_perform.specs.Scripts.{IsKeeper, IsScenarioOf};
-ghost use Rattle.chorus_perform.specs.Runners.{AreEnding, AreEntered, HasEntered, HasRetired};
+ghost use Rattle.chorus_perform.specs.Runners.{AreEnding, AreEntered, HasEntered, HasRetired, both};
 
 use crate::runner::Runner;
 use crate::stopped::Halted;
@@ -40,7 +40,7 @@ pub(crate) fn enter(
         };
         let runner = Runner {
             pass: entered,
-            done: false,
+            ended: Err(Halted),
         };
         match runners.push(runner) {
             Ok(()) => {}
@@ -50,13 +50,13 @@ pub(crate) fn enter(
     Ok(())
 }
 
-/// Retires the passes of the scripts, that of the last first. True where each performed all of its script.
+/// Retires the passes of the scripts, that of the last first. Whether each performed all of its script; an error where one halted.
 pub(crate) fn retire(
     nucleus: &Nucleus,
     mut runners: Vec<Runner>,
     pass: &mut Pass,
     scenario: &Scenario,
-) -> bool
+) -> Result<bool, Halted>
     requires pass { IsPassOf nucleus.now pass.old }
     requires notes { (known pass.old).notes ≡ [] }
     requires ending { AreEnding nucleus.now scenario.now (caller_of pass.old).last runners.items }
@@ -64,21 +64,31 @@ pub(crate) fn retire(
     ensures retired { HasRetired result scenario.now 0 (vec_len runners) pass.old pass.new }
 {
     let _scenario = scenario; // for what is said of it
-    let mut all = true;
+    let mut how = Ok(true);
     while let Some(runner) = runners.pop() {
-        all = retire_one(nucleus, runner, pass) & all;
+        how = both(retire_one(nucleus, runner, pass), how);
     }
-    all
+    how
 }
 
-/// Retires the pass of one script. True where it performed all of that script.
-fn retire_one(nucleus: &Nucleus, runner: Runner, pass: &mut Pass) -> bool
+/// How two scripts ended: whether both were performed whole, or that one halted.
+fn both(one: Result<bool, Halted>, other: Result<bool, Halted>) -> Result<bool, Halted>
+    ensures { result ≡ both one other }
+{
+    match one {
+        Ok(whole) => Ok(whole & other?),
+        Err(Halted) => Err(Halted),
+    }
+}
+
+/// Retires the pass of one script. How that ended.
+fn retire_one(nucleus: &Nucleus, runner: Runner, pass: &mut Pass) -> Result<bool, Halted>
     requires pass { IsPassOf nucleus.now pass.old }
     requires own { IsPassOf nucleus.now runner.pass }
     ensures retires { Retires nucleus.now runner.pass pass.old pass.new }
-    ensures done { result ≡ runner.done }
+    ensures ended { result ≡ runner.ended }
 {
-    let Runner { pass: own, done } = runner;
+    let Runner { pass: own, ended } = runner;
     nucleus.retire(own, pass);
-    done
+    ended
 }

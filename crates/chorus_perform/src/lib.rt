@@ -12,6 +12,9 @@
 //! The threads that are done with their commands last go on to pump, follow packets from place to place, and help one
 //! another.
 //!
+//! Where something waits in the scenario, `waiting` performs the commands of a thread, and `resting` tells when all threads rest. A
+//! script that waits then ends behind the first of its commands.
+//!
 //! [`perform_command`], and [`settle`], the last step, may be called alone, by what performs commands in another way:
 //! the first performs one command, the other pumps all places until nothing is left.
 
@@ -25,6 +28,7 @@ mod lately;
 mod pace;
 mod performing;
 mod pumping;
+mod resting;
 mod rounds;
 mod runner;
 mod running;
@@ -32,6 +36,7 @@ mod setup;
 mod share;
 mod stay;
 mod stopped;
+mod waiting;
 
 pub use commands::perform_command;
 pub use gate::{Gate, OpenGate};

@@ -1,13 +1,14 @@
 //! Performing a scenario on a nucleus.
 
-ghost use Rattle.std.specs.Prelude.{◌≡◌, ℕ, true, false, OnOk, OnErr, IsErrOf, Some, None};
+ghost use Rattle.std.specs.Prelude.{◌≡◌, ℕ, true, false, IfOk, OnOk, OnErr, IsErrOf, Some, None};
 ghost use Rattle.std.specs.declared.alloc.AllocError.{AllocError};
 ghost use Rattle.chorus_scene.specs.Limits.{Keeps};
+ghost use Rattle.chorus_scene.specs.Scene.{HasNoWait};
 ghost use Rattle.chorus_nucleus.specs.SiteTurns.Turning.{HasSeenMore};
 ghost use Rattle.chorus_nucleus.specs.Passes.{caller_of, known, layout_of, worn_by, IsPassOf};
 ghost use Rattle.chorus_nucleus.specs.Rounds.{IsEven};
-ghost use Rattle.chorus_perform.specs.Scripts.{HasPerformed, IsOpening};
-ghost use Rattle.chorus_perform.specs.Runners.{IsSetUp};
+ghost use Rattle.chorus_perform.specs.Scripts.{HasPerformed, IsOpening, PerformsSetup};
+ghost use Rattle.chorus_perform.specs.Runners.{IsSetUp, WholeUnless, if_came, is_whole};
 
 use crate::coming::{enter, retire};
 use crate::gate::Gate;
@@ -23,12 +24,13 @@ use std::thread::Threads;
 
 /// Performs a scenario on a nucleus that was just started, with its opening pass: seat 0 performs the setup; a pass is entered for
 /// each script, in their order, so that script k has seat k; the scripts run side by side, each in a thread of its own where one can
-/// be made, which performs its commands in their order; their passes are retired; and seat 0 pumps all places until nothing is left.
-/// The schedule is not used.
+/// be made, which performs its commands in their order, an await when a message has come; their passes are retired; and seat 0 pumps all
+/// places until nothing is left. The schedule is not used.
 ///
-/// At Ok no pass was told a worn clock. Want of memory in one thread ends that thread alone. `Stopped` comes when all have come to an
-/// end: every pass that was entered is retired, and each performed the first of its commands. `Worn` comes only with the clock that
-/// `pass.worn()` then has, `Memory` only where that has none.
+/// At Ok no pass was told a worn clock, the setup was performed, and each script, or at false the first of its commands: then one waits,
+/// in a scenario with awaits, since its thread found that all threads rest. That this was so is not promised. Want of memory in one
+/// thread ends that thread alone. `Stopped` comes when all have come to an end: every pass that was entered is retired, and each
+/// performed the first of its commands. `Worn` comes only with the clock that `pass.worn()` then has, `Memory` only where that has none.
 pub fn perform<R: Threads + Wait + Sync, G: Gate>(
     alloc: Global,
     rt: &R,
@@ -36,12 +38,14 @@ pub fn perform<R: Threads + Wait + Sync, G: Gate>(
     pass: &mut Pass,
     scenario: &Scenario,
     gate: &G,
-) -> Result<(), Stopped>
+) -> Result<bool, Stopped>
     requires pass { IsPassOf nucleus.now pass.old }
     requires opening { IsOpening pass.old }
     requires layout { scenario.now.layout ≡ layout_of nucleus.now }
     ensures pass { IsPassOf nucleus.now pass.new }
-    ensures ok { OnOk result (HasPerformed true scenario.now (known pass.new)) }
+    ensures performed { IfOk result (λ all. HasPerformed all scenario.now (known pass.new)) }
+    ensures setup { OnOk result (PerformsSetup scenario.now (known pass.new).mine) }
+    ensures whole { HasNoWait scenario.now → IfOk result (λ all. all ≡ true) }
     ensures even { OnOk result (IsEven (layout_of nucleus.now) (known pass.new)) }
     ensures stopped { OnErr result (HasPerformed false scenario.now (known pass.new)) }
     ensures unworn { OnOk result (worn_by pass.new ≡ worn_by pass.old) }
@@ -51,7 +55,7 @@ pub fn perform<R: Threads + Wait + Sync, G: Gate>(
         worn_by pass.new ≡ None }
 {
     match perform_all(alloc, rt, nucleus, pass, scenario, gate) {
-        Ok(()) => Ok(()),
+        Ok(all) => Ok(all),
         Err(Halted) => Err(reason(pass)),
     }
 }
@@ -64,25 +68,27 @@ fn perform_all<R: Threads + Wait + Sync, G: Gate>(
     pass: &mut Pass,
     scenario: &Scenario,
     gate: &G,
-) -> Result<(), Halted>
+) -> Result<bool, Halted>
     requires pass { IsPassOf nucleus.now pass.old }
     requires opening { IsOpening pass.old }
     requires layout { scenario.now.layout ≡ layout_of nucleus.now }
     ensures pass { IsPassOf nucleus.now pass.new }
-    ensures ok { OnOk result (HasPerformed true scenario.now (known pass.new)) }
+    ensures performed { IfOk result (λ all. HasPerformed all scenario.now (known pass.new)) }
+    ensures setup { OnOk result (PerformsSetup scenario.now (known pass.new).mine) }
+    ensures whole { WholeUnless scenario.now result }
     ensures even { OnOk result (IsEven (layout_of nucleus.now) (known pass.new)) }
     ensures stopped { OnErr result (HasPerformed false scenario.now (known pass.new)) }
     ensures unworn { OnOk result (worn_by pass.new ≡ worn_by pass.old) }
 {
     let _layout = scenario.layout(); // tells what a scenario keeps
     set_up(rt, nucleus, pass, scenario)?;
-    if !run_scripts(alloc, rt, nucleus, pass, scenario, gate) {
-        return Err(Halted);
-    }
-    settle(rt, nucleus, pass)
+    let all = run_scripts(alloc, rt, nucleus, pass, scenario, gate)?;
+    settle(rt, nucleus, pass)?;
+    Ok(all)
 }
 
-/// Enters the passes of the scripts, runs them, and retires them. True where each performed all of its script.
+/// Enters the passes of the scripts, runs them, and retires them. Whether each performed all of its script; an error where one halted, or
+/// did not come.
 fn run_scripts<R: Threads + Wait + Sync, G: Gate>(
     alloc: Global,
     rt: &R,
@@ -90,22 +96,32 @@ fn run_scripts<R: Threads + Wait + Sync, G: Gate>(
     pass: &mut Pass,
     scenario: &Scenario,
     gate: &G,
-) -> bool
+) -> Result<bool, Halted>
     requires pass { IsPassOf nucleus.now pass.old }
     requires setup { IsSetUp scenario.now pass.old }
     requires layout { scenario.now.layout ≡ layout_of nucleus.now }
     requires keeps { Keeps scenario.now }
     ensures pass { IsPassOf nucleus.now pass.new }
-    ensures performed { HasPerformed result scenario.now (known pass.new) }
+    ensures performed { HasPerformed (is_whole result) scenario.now (known pass.new) }
+    ensures setup { PerformsSetup scenario.now (known pass.new).mine }
+    ensures whole { WholeUnless scenario.now result }
     ensures caller { HasSeenMore (caller_of pass.old) (caller_of pass.new) }
-    ensures unworn { result ≡ true → worn_by pass.new ≡ worn_by pass.old }
+    ensures unworn { OnOk result (worn_by pass.new ≡ worn_by pass.old) }
 {
     let Ok(mut runners) = Vec::with_capacity(alloc, scenario.scripts().len()) else {
-        return false;
+        return Err(Halted);
     };
     let entered = enter(nucleus, pass, scenario, &mut runners).is_ok();
     if entered {
         perform_scripts(rt, nucleus, scenario, gate, &mut runners);
     }
-    retire(nucleus, runners, pass, scenario) & entered
+    let how = retire(nucleus, runners, pass, scenario);
+    if_came(entered, how)
+}
+
+/// How the scripts ended, where all came.
+fn if_came(came: bool, how: Result<bool, Halted>) -> Result<bool, Halted>
+    ensures { result ≡ if_came came how }
+{
+    if came { how } else { Err(Halted) }
 }

@@ -310,7 +310,7 @@ fn pump_due<R: Wait>(
 
 /// Pumps the places of the range that are due, and follows what they work off. Gives how many packets the places of the range put more
 /// than they worked off, modulo 2^64, where each of them was due and idle.
-fn sweep<R: Wait>(
+pub(crate) fn sweep<R: Wait>(
     rt: &R,
     nucleus: &Nucleus,
     pass: &mut Pass,

@@ -80,6 +80,27 @@ impl Share {
         }
     }
 
+    /// The part with this number, from 0, of so many of the places.
+    pub(crate) fn part(&self, number: u32, count: u32) -> Stretch
+        ensures { result.last ≤ self.now.places }
+    {
+        Stretch {
+            before: self.part_up_to(number, count),
+            last: self.part_up_to(number.saturating_add(1), count),
+        }
+    }
+
+    /// How many places the first `number` of so many parts have.
+    fn part_up_to(&self, number: u32, count: u32) -> u16
+        ensures { result ≤ self.now.places }
+    {
+        if count == 0 {
+            return 0;
+        }
+        let all = self.named as u32;
+        (all.saturating_mul(number) / count).min(all) as u16
+    }
+
     /// How many places the first `number` of the ranges have.
     fn up_to(&self, number: u32) -> u16
         requires { number ≤ 4 }

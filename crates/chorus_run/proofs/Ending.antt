@@ -1,5 +1,5 @@
 -- How a run ends.
-use Rattle.std.proofs.Common.{ℕ, zero, suc, true, false, ◌≡◌, ◌<◌, ◌≤◌, inl, inr, List, [], ◌∷◌, length, Option, Some, None, IfSome, IfOk, OnErr, Result, Ok, Err, slice_index_or, Bor, refl, sym, ◌∙◌, ap, subst, arith}
+use Rattle.std.proofs.Common.{ℕ, zero, suc, Bool, true, false, ◌≡◌, ◌<◌, ◌≤◌, inl, inr, List, [], ◌∷◌, length, Option, Some, None, IfSome, IfOk, OnErr, Result, Ok, Err, slice_get, slice_index_or, Bor, refl, sym, ◌∙◌, ap, subst, arith}
 use Rattle.std.specs.declared.alloc.AllocError.{AllocError}
 use Rattle.chorus_ui.specs.declared.layout.Layout.{Layout}
 use Rattle.chorus_ui.specs.Layout.{IsLayout}
@@ -7,10 +7,11 @@ use Rattle.chorus_ui.specs.declared.limits.TheConstants.{CLOCK_LIMIT}
 use Rattle.chorus_entry.specs.declared.entry.Entry.{Entry}
 use Rattle.chorus_merge.specs.Steps.{lent}
 use Rattle.chorus_net.specs.declared.closed.Closed.{Closed}
-use Rattle.chorus_net.specs.Closing.{merge_of, worn_in, worn_of}
-use Rattle.chorus_scene.specs.Scene.{Scene}
+use Rattle.chorus_net.specs.Closing.{merge_of, past_of, worn_in, worn_of}
+use Rattle.chorus_scene.specs.Scene.{Scene, Script, HasNoWait}
 use Rattle.chorus_scene.specs.Limits.{Keeps}
 use Rattle.chorus_show.specs.declared.status.Status.{Status}
+use Rattle.chorus_show.specs.declared.stuck.Stuck.{Stuck}
 use Rattle.chorus_nucleus.specs.declared.nucleus.Nucleus.{Nucleus}
 use Rattle.chorus_nucleus.specs.declared.pass.Pass.{Pass}
 use Rattle.chorus_nucleus.specs.Passes.{layout_of, known, worn_by}
@@ -18,16 +19,22 @@ use Rattle.chorus_nucleus.specs.Closing.{ClosesFor, IsClosed}
 use Rattle.chorus_perform.specs.declared.stopped.Stopped.{Stopped}
 use Rattle.chorus_perform.specs.declared.stopped.Stopped.TheVariants as stops
 use Rattle.chorus_nucleus.specs.Rounds.{IsEven}
-use Rattle.chorus_perform.specs.Scripts.{HasPerformed}
+use Rattle.chorus_perform.specs.Scripts.{HasPerformed, PerformsSetup}
 use Rattle.chorus_replay.specs.Laws.{worn_clock}
+use Rattle.chorus_replay.specs.Ordered.{StuckUnless}
 use Rattle.chorus_report.specs.declared.played.Played.{Played}
-use Rattle.chorus_report.specs.Reading.{IsGiven, IsGivenNoWait}
-use Rattle.chorus_report.specs.Headline.{AreWithinUnless, HasClock, Plays, RunsWhole, callers_of, commands_by}
+use Rattle.chorus_report.specs.Awaiting.{StandsAt, StandsUnless, fronts_of, stuck_of}
+use Rattle.chorus_report.specs.Reading.{IsGiven, has_wait}
+use Rattle.chorus_report.specs.Headline.{AreWithinUnless, HasClock, Plays, callers_of}
 use Rattle.chorus_report.specs.Ending.{EndsFor, HasWorn, IsFinished}
+use Rattle.chorus_report.proofs.Awaiting.{nothing-waits}
 use Rattle.chorus_report.proofs.Ends.{finished-so}
+use Rattle.chorus_run.specs.Ends.{RunsTo}
+use Rattle.chorus_run.specs.Standing.{Stand, done_in}
 use Rattle.chorus_run.specs.Threads.{HasAllPerformed, HasWornOf, IsAllPerformed, IsOfNucleus, IsPlayedOn, StopsAt}
 use Rattle.chorus_run.proofs.Owning.{is-of-nucleus}
-use Rattle.chorus_run.proofs.Playing.{plays-first, plays-done, plays-write}
+use Rattle.chorus_run.proofs.Asked.{none-stuck, stands-done, stands-there}
+use Rattle.chorus_run.proofs.Playing.{all-done, inside, plays-first, plays-done, plays-write}
 
 -- an entry of a list that was lent has the clock
 pub has-at : (xs : List (Bor Entry)) (i : ℕ) (x : Bor Entry) (clock : ℕ) → i < length xs → x ≡ slice_index_or xs i x → x.now.clock ≡ clock → HasClock clock (lent xs)
@@ -47,16 +54,38 @@ closed-worn n v closed h = ap worn_in h.origin
 no-clock : {P : Type 0} (clock : ℕ) → None ≡ Some clock → P
 no-clock clock h = absurd (cc)
 
-pub plays-all : (n : Nucleus) (c : Scene) (v : Pass) (closed : Closed) → c.layout ≡ layout_of n → Keeps c → HasPerformed true c (known v) → IsEven (layout_of n) (known v) → IsClosed n v closed → IsPlayedOn n c None closed
-plays-all n c v closed same keeps performed even h =
+-- how the scripts stand that were performed
+module _ (c : Scene) (closed : Closed) (stuck : List Stuck) (shape : IsLayout c.layout) (plays : Plays c.layout (callers_of c) (fronts_of c (done_in c (past_of closed))) Status.Done closed)
+    (whole : HasNoWait c → (i : ℕ) (script : Script) → slice_get c.scripts i ≡ Some script → slice_index_or (done_in c (past_of closed)) i 0 ≡ length script.commands) (stand : Stand c closed stuck) where
+  abbrev Stands : Type 0
+  Stands = (i : ℕ) (script : Script) → slice_get c.scripts i ≡ Some script → StandsAt c.layout script (suc i) (slice_index_or (done_in c (past_of closed)) i 0) (past_of closed)
+
+  how : (b : Bool) → has_wait c ≡ b → Stands × (stuck ≡ stuck_of c (done_in c (past_of closed)))
+  how true w =
+      let asked = stand.asked w in
+      (λ i script at. stands-there shape plays (suc i) (slice_index_or (done_in c (past_of closed)) i 0) script (asked.each i script (inside c.scripts i script at) at), asked.stuck_is)
+  how false w =
+      let none = nothing-waits c.scripts w in
+      (stands-done c.layout c (past_of closed) none (whole none), stand.none w ∙ sym (none-stuck c.layout c (past_of closed) none (whole none)))
+
+  both : Stands × (stuck ≡ stuck_of c (done_in c (past_of closed)))
+  both = how (has_wait c) refl
+
+pub plays-all : (n : Nucleus) (c : Scene) (v : Pass) (closed : Closed) (all : Bool) (stuck : List Stuck) → c.layout ≡ layout_of n → Keeps c → HasPerformed all c (known v) → PerformsSetup c (known v).mine → (HasNoWait c → all ≡ true)
+    → IsEven (layout_of n) (known v) → IsClosed n v closed → Stand c closed stuck → IsPlayedOn n c None stuck closed
+plays-all n c v closed all stuck same keeps performed setup whole even h stand =
     let shape = subst IsLayout (sym same) h.shape in
     let closes = subst (λ k. ClosesFor k (known v) closed) (sym same) h.for_actors in
     let even' = subst (λ k. IsEven k (known v)) (sym same) even in
-    let done = plays-done c shape keeps true (known v) performed closed closes refl even' in
+    let plays = plays-done c shape keeps all (known v) performed closed closes even' setup in
+    let so = both c closed stuck shape plays (λ none. all-done c shape keeps all (known v) performed closed closes (whole none)) stand in
     record {
-      plays = (done, plays-write c shape keeps true (known v) performed closed closes refl even');
+      done = done_in c (past_of closed);
+      plays = (plays, plays-write c shape keeps all (known v) performed closed closes even' setup);
+      stands = (so.0, so.0);
+      stuck_is = so.1;
       origin = is-of-nucleus n v closed h performed.seat performed.first;
-      all = record { last = v; closes = h; performed = λ none. performed };
+      all = record { last = v; closes = h; performed = λ unworn none. subst (λ b. HasPerformed b c (known v)) (whole none) performed };
       high = λ clock is. no-clock clock is;
       entry = λ clock is. no-clock clock is;
       of_pass = λ clock is. no-clock clock is;
@@ -68,12 +97,14 @@ err-at r e P is h = subst (λ z. OnErr z P) is h
 some-is : (x y : ℕ) → Some x ≡ Some y → x ≡ y
 some-is x y h = cc
 
-played-worn : (n : Nucleus) (c : Scene) (v : Pass) (closed : Closed) (clock : ℕ) → c.layout ≡ layout_of n → Keeps c → HasPerformed false c (known v) → IsClosed n v closed → CLOCK_LIMIT ≤ clock → HasClock clock (merge_of closed) → worn_by v ≡ Some clock → IsPlayedOn n c (Some clock) closed
-played-worn n c v closed clock same keeps performed h high entry worn =
+played-worn : (n : Nucleus) (c : Scene) (v : Pass) (closed : Closed) (stuck : List Stuck) (clock : ℕ) → c.layout ≡ layout_of n → Keeps c → HasPerformed false c (known v) → IsClosed n v closed → CLOCK_LIMIT ≤ clock → HasClock clock (merge_of closed) → worn_by v ≡ Some clock → IsPlayedOn n c (Some clock) stuck closed
+played-worn n c v closed stuck clock same keeps performed h high entry worn =
     let closes = subst (λ k. ClosesFor k (known v) closed) (sym same) h.for_actors in
-    let first = plays-first c (subst IsLayout (sym same) h.shape) keeps false (known v) performed closed closes clock in
     record {
-      plays = first;
+      done = done_in c (past_of closed);
+      plays = plays-first c (subst IsLayout (sym same) h.shape) keeps false (known v) performed closed closes clock;
+      stands = tt;
+      stuck_is = tt;
       origin = is-of-nucleus n v closed h performed.seat performed.first;
       all = record { last = v; closes = h; performed = λ none. absurd (cc) };
       high = λ k is. subst (λ m. CLOCK_LIMIT ≤ m) (some-is clock k is) high;
@@ -81,32 +112,39 @@ played-worn n c v closed clock same keeps performed h high entry worn =
       of_pass = λ k is. closed-worn n v closed h ∙ worn ∙ is;
     }
 
-pub plays-worn : (n : Nucleus) (c : Scene) (v : Pass) (closed : Closed) (why : Stopped) (done : Result (Unit {0}) Stopped) (r : Result Played AllocError) → done ≡ Err why → c.layout ≡ layout_of n → Keeps c → OnErr done (HasPerformed false c (known v)) → IsClosed n v closed → ((k : ℕ) → done ≡ Err (stops.Worn k) → worn_by v ≡ Some k) → IfOk r (λ p. StopsAt why closed p) → IfOk r (λ p. IsPlayedOn n c p.worn p.closed)
-plays-worn n c v closed why done (Ok p) is same keeps performed h told stop =
-    subst (λ z. IsPlayedOn n c p.worn z) (sym stop.closed_is) (subst (λ w. IsPlayedOn n c w closed) (sym stop.worn)
-    (played-worn n c v closed stop.clock same keeps (err-at done why (HasPerformed false c (known v)) is performed) h stop.high stop.entry
+pub plays-worn : (n : Nucleus) (c : Scene) (v : Pass) (closed : Closed) (why : Stopped) (done : Result Bool Stopped) (p : Played) (stuck : List Stuck) → done ≡ Err why → c.layout ≡ layout_of n → Keeps c → OnErr done (HasPerformed false c (known v)) → IsClosed n v closed
+    → ((k : ℕ) → done ≡ Err (stops.Worn k) → worn_by v ≡ Some k) → StopsAt why closed p → IsPlayedOn n c p.worn stuck p.closed
+plays-worn n c v closed why done p stuck is same keeps performed h told stop =
+    subst (λ z. IsPlayedOn n c p.worn stuck z) (sym stop.closed_is) (subst (λ w. IsPlayedOn n c w stuck closed) (sym stop.worn)
+    (played-worn n c v closed stuck stop.clock same keeps (err-at done why (HasPerformed false c (known v)) is performed) h stop.high stop.entry
     (told stop.clock (is ∙ ap (λ (z : Stopped). Err z) stop.is))))
-plays-worn n c v closed why done (Err e) is same keeps performed h told stop = tt
 
 -- What is promised of it.
 
-pub has-worn : (n : Nucleus) (c : Scene) (r : Result Played AllocError) → IfOk r (λ p. IsPlayedOn n c p.worn p.closed) → IfOk r HasWorn
-has-worn n c (Ok p) h = λ clock is. (h.high clock is, h.entry clock is)
-has-worn n c (Err e) h = tt
+pub has-worn : (n : Nucleus) (c : Scene) (stuck : List Stuck) (r : Result Played AllocError) → IfOk r (λ p. IsPlayedOn n c p.worn stuck p.closed) → IfOk r HasWorn
+has-worn n c stuck (Ok p) h = λ clock is. (h.high clock is, h.entry clock is)
+has-worn n c stuck (Err e) h = tt
 
-module _ (n : Nucleus) (c : Scene) (r : Result Played AllocError) (s : Status) (played : IfOk r (λ p. IsPlayedOn n c p.worn p.closed)) where
-  each : (P : Status → Closed → Type 0) → ((worn : Option ℕ) (closed : Closed) → IsPlayedOn n c worn closed → EndsFor P worn closed) → (q : Result Played AllocError) → IfOk q (λ p. IsPlayedOn n c p.worn p.closed) → IfOk q (λ p. EndsFor P p.worn p.closed)
+-- it plays a scenario so, with these scripts stuck
+record Stood (c : Scene) (stuck : List Stuck) (status : Status) (closed : Closed) : Type 0 where
+  pub done : List ℕ
+  pub plays : Plays c.layout (callers_of c) (fronts_of c done) status closed
+  pub stands : StandsUnless status c.layout c done (past_of closed)
+  pub stuck_is : StuckUnless status c done stuck
+
+module _ (n : Nucleus) (c : Scene) (stuck : List Stuck) (r : Result Played AllocError) (s : Status) (played : IfOk r (λ p. IsPlayedOn n c p.worn stuck p.closed)) where
+  each : (P : Status → Closed → Type 0) → ((worn : Option ℕ) (closed : Closed) → IsPlayedOn n c worn stuck closed → EndsFor P worn closed) → (q : Result Played AllocError) → IfOk q (λ p. IsPlayedOn n c p.worn stuck p.closed) → IfOk q (λ p. EndsFor P p.worn p.closed)
   each P f (Ok p) h = f p.worn p.closed h
   each P f (Err e) h = tt
 
-  origin-for : (worn : Option ℕ) (closed : Closed) → IsPlayedOn n c worn closed → EndsFor (λ s closed. IsOfNucleus n closed) worn closed
+  origin-for : (worn : Option ℕ) (closed : Closed) → IsPlayedOn n c worn stuck closed → EndsFor (λ s closed. IsOfNucleus n closed) worn closed
   origin-for None closed h = (h.origin, h.origin)
   origin-for (Some clock) closed h = h.origin
 
   pub origin-so : (o : Option Closed) → IfSome o (IsFinished r s) → IfSome o (IsOfNucleus n)
   origin-so o f = finished-so (λ s closed. IsOfNucleus n closed) r s o (each (λ s closed. IsOfNucleus n closed) origin-for r played) f
 
-  all-for : (worn : Option ℕ) (closed : Closed) → IsPlayedOn n c worn closed → EndsFor (λ s closed. IsAllPerformed n c (worn_clock s) closed) worn closed
+  all-for : (worn : Option ℕ) (closed : Closed) → IsPlayedOn n c worn stuck closed → EndsFor (λ s closed. IsAllPerformed n c (worn_clock s) closed) worn closed
   all-for None closed h = (h.all, h.all)
   all-for (Some clock) closed h = h.all
 
@@ -118,22 +156,33 @@ module _ (n : Nucleus) (c : Scene) (r : Result Played AllocError) (s : Status) (
       by None all = tt
       by (Some closed) all = record { scene = c; given = given; all = all }
 
-  worn-for : (worn : Option ℕ) (closed : Closed) → IsPlayedOn n c worn closed → EndsFor HasWornOf worn closed
+  worn-for : (worn : Option ℕ) (closed : Closed) → IsPlayedOn n c worn stuck closed → EndsFor HasWornOf worn closed
   worn-for None closed h = (λ clock is. absurd (cc), λ clock is. absurd (cc))
   worn-for (Some clock) closed h = λ k is. h.of_pass k (let both : clock ≡ k = cc in ap (λ x. Some x) both)
 
   pub worn-so : (o : Option Closed) → IfSome o (IsFinished r s) → IfSome o (HasWornOf s)
   worn-so o f = finished-so HasWornOf r s o (each HasWornOf worn-for r played) f
 
-  pub runs-so : (l : Layout) (told : Option (List ℕ)) (o : Option Closed) → c.layout ≡ l → IsGivenNoWait l told (Ok c) → IfSome o (IsFinished r s) → IfSome o (AreWithinUnless s) → IfSome o (RunsWhole l told s)
-  runs-so l told o same given f within =
-      by o (finished-so (Plays c.layout (callers_of c) (commands_by c)) r s o (each (Plays c.layout (callers_of c) (commands_by c)) (λ worn closed h. h.plays) r played) f) within
+  stood-for : (worn : Option ℕ) (closed : Closed) → IsPlayedOn n c worn stuck closed → EndsFor (Stood c stuck) worn closed
+  stood-for None closed h = (
+    record { done = h.done; plays = h.plays.0; stands = h.stands.0; stuck_is = h.stuck_is },
+    record { done = h.done; plays = h.plays.1; stands = h.stands.1; stuck_is = h.stuck_is },
+  )
+  stood-for (Some clock) closed h = record { done = h.done; plays = h.plays; stands = h.stands; stuck_is = h.stuck_is }
+
+  pub runs-so : (l : Layout) (told : Option (List ℕ)) (o : Option Closed) → c.layout ≡ l → IsGiven l told (Ok c) → IfSome o (IsFinished r s) → IfSome o (AreWithinUnless s) → IfSome o (RunsTo l told stuck s)
+  runs-so l told o same given f within = by o (finished-so (Stood c stuck) r s o (each (Stood c stuck) stood-for r played) f) within
     where
-      by : (o : Option Closed) → IfSome o (Plays c.layout (callers_of c) (commands_by c) s) → IfSome o (AreWithinUnless s) → IfSome o (RunsWhole l told s)
-      by None plays within = tt
-      by (Some closed) plays within = record {
-        scene = c;
-        given = given;
-        plays = subst (λ k. Plays k (callers_of c) (commands_by c) s closed) same plays;
-        within = within;
+      by : (o : Option Closed) → IfSome o (Stood c stuck s) → IfSome o (AreWithinUnless s) → IfSome o (RunsTo l told stuck s)
+      by None so within = tt
+      by (Some closed) so within = record {
+        runs = record {
+          scene = c;
+          given = given;
+          done = so.done;
+          plays = subst (λ k. Plays k (callers_of c) (fronts_of c so.done) s closed) same so.plays;
+          stands = subst (λ k. StandsUnless s k c so.done (past_of closed)) same so.stands;
+          within = within;
+        };
+        stuck_is = so.stuck_is;
       }

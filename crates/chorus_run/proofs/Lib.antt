@@ -1,5 +1,8 @@
 pub mod Totals
 pub mod Owning
+pub mod Givings
+pub mod Countings
+pub mod Asked
 pub mod Playing
 pub mod Ending
 pub mod DrawnCrew

@@ -1,10 +1,11 @@
 -- What was closed, when a scenario was performed, plays it.
-use Rattle.std.proofs.Common.{ℕ, zero, suc, ◌≡◌, ◌+◌, ◌<◌, ◌≤◌, ◌&&◌, inl, inr, nat_le, Bool, true, List, [], ◌∷◌, ◌++◌, length, reverse, Option, Some, None, unwrap_or, slice_get, refl, sym, ◌∙◌, ap, subst, arith}
+use Rattle.std.proofs.Common.{ℕ, zero, suc, ◌≡◌, ◌+◌, ◌<◌, ◌≤◌, ◌&&◌, inl, inr, nat_le, Bool, true, List, [], ◌∷◌, ◌++◌, length, reverse, take, Option, Some, None, unwrap_or, slice_get, slice_index_or, refl, sym, ◌∙◌, ap, subst, arith}
 use Rattle.std.specs.List.{All, list_all}
 use Rattle.std.specs.Option.{option_map}
 use Rattle.std.proofs.lemmas.Bool.{and_parts, cases_lt, le-leb}
 use Rattle.std.proofs.lemmas.Option.{slice_get-map}
 use Rattle.std.proofs.lemmas.List.{append-nil, reverse-append, reverse-reverse, length-reverse}
+use Rattle.std.proofs.Math.Seq.{take-append_seam}
 use Rattle.std.proofs.lemmas.List.Elements.{All-nil, All-cons, All-head, All-tail, All-append}
 use Rattle.chorus_ui.specs.declared.ui.Ui.{Ui}
 use Rattle.chorus_ui.specs.declared.layout.Layout.{Layout}
@@ -41,10 +42,13 @@ use Rattle.chorus_scene.specs.Limits.{Keeps, script_keeps, command_keeps, is_act
 use Rattle.law_closing.specs.Actors.{AreIn, AreActors}
 use Rattle.chorus_nucleus.specs.Closing.{ClosesAs, ClosesFor}
 use Rattle.chorus_nucleus.specs.Rounds.{IsEven, turns_seen}
-use Rattle.chorus_perform.specs.Scripts.{IsPerformedBy, IsOfScript, HasPerformed}
+use Rattle.chorus_perform.specs.Scripts.{IsPerformedBy, IsOfScript, HasPerformed, PerformsSetup}
 use Rattle.chorus_report.specs.Headline.{PerformsAll, PerformsFirst, Plays, callers_of, commands_by}
+use Rattle.chorus_report.specs.Awaiting.{fronts_of}
 use Rattle.chorus_report.proofs.Playing.{performs-none, past-is, plays-so}
 use Rattle.chorus_report.proofs.Seating.{run-more, run-ungiven}
+use Rattle.chorus_run.specs.Standing.{done_in}
+use Rattle.chorus_run.proofs.Countings.{done-at, own-count}
 use Rattle.chorus_run.proofs.Totals.{none-by-link, total-upto}
 
 abbrev K : Type 0
@@ -110,7 +114,7 @@ there-is [] i lt = absurd (omega (arith, lt))
 there-is (x ∷ xs) zero lt = (x, refl)
 there-is (x ∷ xs) (suc i) lt = there-is xs i (omega (arith, lt))
 
-inside : {X : Type 0} (xs : List X) (i : ℕ) (x : X) → slice_get xs i ≡ Some x → i < length xs
+pub inside : {X : Type 0} (xs : List X) (i : ℕ) (x : X) → slice_get xs i ≡ Some x → i < length xs
 inside [] i x e = absurd (cc)
 inside (y ∷ xs) zero x e = omega arith
 inside (y ∷ xs) (suc i) x e = let ih = inside xs i x e in omega (arith, ih)
@@ -275,18 +279,64 @@ module _ (c : Scene) (shape : IsLayout c.layout) (keeps : Keeps c) (all : Bool) 
   performs-first : (q : ℕ) (actor : Ui) (given : List Command) → callers_of c q ≡ Some actor → commands_by c q ≡ Some given → PerformsFirst l q actor closed given
   performs-first q actor given is what = let d = did q actor given is what in (d.done, (d.left, (d.whole, d.performs_them)))
 
-  performs-all : all ≡ true → (q : ℕ) (actor : Ui) (given : List Command) → callers_of c q ≡ Some actor → commands_by c q ≡ Some given → PerformsAll l q actor closed given
-  performs-all t q actor given is what =
-      let d = did q actor given is what in
-      subst (PerformsAll l q actor closed) (sym (d.whole ∙ ap (λ xs. d.done ++ xs) (d.none_left t) ∙ append-nil d.done)) d.performs_them
+  -- So many of its commands were done.
 
-  pub plays-first : (clock : ℕ) → Plays l (callers_of c) (commands_by c) (Status.Worn clock) closed
+  abbrev counts : List ℕ
+  counts = done_in c (past_of closed)
+
+  counted : (i : ℕ) (actor : Ui) (given : List Command) (d : Did (suc i) actor given) → i < length c.scripts → slice_index_or counts i 0 ≡ length d.done
+  counted i actor given d lt = done-at c (past_of closed) i lt ∙ own-count l (suc i) actor (past_of closed) d.done d.performs_them
+
+  front-is : (i : ℕ) (actor : Ui) (given : List Command) (d : Did (suc i) actor given) → i < length c.scripts → d.done ≡ take (slice_index_or counts i 0) given
+  front-is i actor given d lt =
+      sym (ap (take (slice_index_or counts i 0)) d.whole ∙ ap (λ m. take m (d.done ++ d.left)) (counted i actor given d lt) ∙ take-append_seam d.done d.left)
+
+  -- the script with these commands was done so far
+  performs-front : (i : ℕ) (actor : Ui) (script : Script) → callers_of c (suc i) ≡ Some actor → slice_get c.scripts i ≡ Some script → PerformsAll l (suc i) actor closed (take (slice_index_or counts i 0) script.commands)
+  performs-front i actor script is at =
+      let d = did (suc i) actor script.commands is (commands-at c i script at) in
+      subst (PerformsAll l (suc i) actor closed) (front-is i actor script.commands d (inside c.scripts i script at)) d.performs_them
+
+  -- each front of a script, where what is so of it is so of the setup
+  of-fronts : (P : ℕ → Ui → List Command → Type 0) → ((actor : Ui) → callers_of c 0 ≡ Some actor → P 0 actor (setup_commands c))
+      → ((i : ℕ) (actor : Ui) (script : Script) → callers_of c (suc i) ≡ Some actor → slice_get c.scripts i ≡ Some script → P (suc i) actor (take (slice_index_or counts i 0) script.commands))
+      → (q : ℕ) (actor : Ui) (given : List Command) → callers_of c q ≡ Some actor → fronts_of c counts q ≡ Some given → P q actor given
+  of-fronts P first each zero actor given is what = subst (P 0 actor) (some-of (setup_commands c) given what) (first actor is)
+  of-fronts P first each (suc i) actor given is what = go (slice_get c.scripts i) refl what
+    where
+      go : (o : Option Script) → slice_get c.scripts i ≡ o → option_map (λ (script : Script). take (slice_index_or counts i 0) script.commands) o ≡ Some given → P (suc i) actor given
+      go None e k = absurd (cc)
+      go (Some script) e k = subst (P (suc i) actor) (some-of (take (slice_index_or counts i 0) script.commands) given k) (each i actor script is e)
+
+  first-fronts : (q : ℕ) (actor : Ui) (given : List Command) → callers_of c q ≡ Some actor → fronts_of c counts q ≡ Some given → PerformsFirst l q actor closed given
+  first-fronts =
+      of-fronts (λ q actor given. PerformsFirst l q actor closed given) (λ actor is. performs-first 0 actor (setup_commands c) is refl)
+      (λ i actor script is at. (take (slice_index_or counts i 0) script.commands, ([], (sym (append-nil (take (slice_index_or counts i 0) script.commands)), performs-front i actor script is at))))
+
+  pub plays-first : (clock : ℕ) → Plays l (callers_of c) (fronts_of c counts) (Status.Worn clock) closed
   plays-first clock =
-      plays-so l shape closed es kept.scheduled.may is_left (callers_of c) (commands_by c) (Status.Worn clock) runs performs-first tt
+      plays-so l shape closed es kept.scheduled.may is_left (callers_of c) (fronts_of c counts) (Status.Worn clock) runs first-fronts tt
 
-  -- Where nothing is left.
+  -- where all was performed, all commands of a script were done
+  pub all-done : all ≡ true → (i : ℕ) (script : Script) → slice_get c.scripts i ≡ Some script → slice_index_or counts i 0 ≡ length script.commands
+  all-done t i script at =
+      let d = did (suc i) script.actor script.commands (actor-at c i script at) (commands-at c i script at) in
+      counted i script.actor script.commands d (inside c.scripts i script at)
+      ∙ ap (λ (cs : List Command). length cs) (sym (append-nil d.done) ∙ ap (λ cs. d.done ++ cs) (sym (d.none_left t)) ∙ sym d.whole)
 
-  module _ (whole : all ≡ true) (even : IsEven c.layout v) where
+  -- Where nothing is left, and the setup was performed.
+
+  module _ (even : IsEven c.layout v) (setup : PerformsSetup c v.mine) where
+    performs-setup : (actor : Ui) → callers_of c 0 ≡ Some actor → PerformsAll l 0 actor closed (setup_commands c)
+    performs-setup actor is =
+        let came : actor_among comers 0 ≡ Some actor = who 0 (omega (arith, h.ended)) ∙ is in
+        let turns : so.of_seats 0 ≡ turns_in v.mine = ap so.of_seats (sym h.seat) ∙ so.mine in
+        let whole : setup_commands c ≡ commands_given (turns_in v.mine) = setup.whole ∙ ap (λ cs. commands_given (turns_in v.mine) ++ cs) (setup.none_left refl) ∙ append-nil (commands_given (turns_in v.mine)) in
+        subst (PerformsAll l 0 actor closed) (sym whole) (ap (λ us. performs l 0 actor (past_of closed) (reverse (commands_given us))) (sym turns) ∙ performed-by 0 actor came)
+
+    fronts : (q : ℕ) (actor : Ui) (given : List Command) → callers_of c q ≡ Some actor → fronts_of c counts q ≡ Some given → PerformsAll l q actor closed given
+    fronts = of-fronts (λ q actor given. PerformsAll l q actor closed given) performs-setup performs-front
+
     same-turns : (p : ℕ) → p < places l → so.of_places (p + 1) ≡ turns_seen v (p + 1)
     same-turns p lt =
         let is : IsPlace (places l) (p + 1) = (omega arith, omega (arith, lt)) in
@@ -309,10 +359,8 @@ module _ (c : Scene) (shape : IsLayout c.layout) (keeps : Keeps c) (all : Bool) 
         subst (λ past. IsQuiet l past closed.rest.items) (sym merged-is)
         (subst (λ (rest : List Packet). IsQuiet l (merged_at l so.closing) rest) (sym no-rest) (merges.quiet no-links))
 
-    pub plays-done : Plays l (callers_of c) (commands_by c) Status.Done closed
-    plays-done =
-        plays-so l shape closed es kept.scheduled.may is_left (callers_of c) (commands_by c) Status.Done runs (performs-all whole) rests
+    pub plays-done : Plays l (callers_of c) (fronts_of c counts) Status.Done closed
+    plays-done = plays-so l shape closed es kept.scheduled.may is_left (callers_of c) (fronts_of c counts) Status.Done runs fronts rests
 
-    pub plays-write : Plays l (callers_of c) (commands_by c) Status.WriteFault closed
-    plays-write =
-        plays-so l shape closed es kept.scheduled.may is_left (callers_of c) (commands_by c) Status.WriteFault runs (performs-all whole) rests
+    pub plays-write : Plays l (callers_of c) (fronts_of c counts) Status.WriteFault closed
+    plays-write = plays-so l shape closed es kept.scheduled.may is_left (callers_of c) (fronts_of c counts) Status.WriteFault runs fronts rests

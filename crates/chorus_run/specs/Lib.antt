@@ -2,3 +2,4 @@ pub mod Threads
 pub mod Ends
 pub mod DrawnCrew
 pub mod ReportParts
+pub mod Standing

@@ -5,7 +5,7 @@ use Rattle.std.specs.List.{All}
 use Rattle.chorus_ui.specs.declared.limits.TheConstants.{CLOCK_LIMIT}
 use Rattle.chorus_ui.specs.Layout.{places}
 use Rattle.chorus_net.specs.declared.closed.Closed.{Closed}
-use Rattle.chorus_net.specs.Closing.{closed_journals, merge_of, worn_of}
+use Rattle.chorus_net.specs.Closing.{closed_journals, merge_of, past_of, worn_of}
 use Rattle.chorus_entry.specs.declared.entry.Entry.{Entry}
 use Rattle.chorus_world.specs.Views.{by}
 use Rattle.chorus_turn.specs.declared.knowledge.Placed.{Placed}
@@ -13,7 +13,8 @@ use Rattle.chorus_turn.specs.declared.knowledge.Note.{Note}
 use Rattle.chorus_turn.specs.Journals.{at_place, entries_of}
 use Rattle.law_closing.specs.Behind.{AllFollow}
 use Rattle.law_closing.specs.Places.{PlaceNote}
-use Rattle.chorus_scene.specs.Scene.{Scene}
+use Rattle.chorus_scene.specs.Scene.{Scene, HasNoWait}
+use Rattle.chorus_show.specs.declared.stuck.Stuck.{Stuck}
 use Rattle.chorus_show.specs.declared.status.Status.{Status}
 use Rattle.chorus_show.specs.declared.status.Status.TheVariants.{Worn}
 use Rattle.chorus_nucleus.specs.declared.nucleus.Nucleus.{Nucleus}
@@ -26,7 +27,8 @@ use Rattle.chorus_perform.specs.declared.stopped.Stopped.TheVariants as stops
 use Rattle.chorus_report.specs.declared.played.Played.{Played}
 use Rattle.chorus_replay.specs.Laws.{worn_clock}
 use Rattle.chorus_report.specs.Reading.{IsGiven}
-use Rattle.chorus_report.specs.Headline.{HasClock, Plays, callers_of, commands_by}
+use Rattle.chorus_report.specs.Headline.{HasClock, Plays, callers_of}
+use Rattle.chorus_report.specs.Awaiting.{StandsUnless, fronts_of, stuck_of}
 use Rattle.chorus_report.specs.Ending.{EndsFor}
 
 -- the entries of the seat in the journal of the place p are those that its pass made there
@@ -59,11 +61,12 @@ pub record IsOfNucleus (n : Nucleus) (closed : Closed) : Type 0 where
 abbrev pub HasWornOf : Status → Closed → Type 0
 HasWornOf status closed = (clock : ℕ) → status ≡ Worn clock → worn_of closed ≡ Some clock
 
--- It is this nucleus that was closed, by a pass that had all of the scenario performed, unless a clock was worn.
+-- It is this nucleus that was closed, by a pass that had all of the scenario performed, where nothing waits in it, unless
+-- a clock was worn.
 pub record IsAllPerformed (n : Nucleus) (c : Scene) (worn : Option ℕ) (closed : Closed) : Type 0 where
   pub last : Pass
   pub closes : IsClosed n last closed
-  pub performed : worn ≡ None → HasPerformed true c (known last)
+  pub performed : worn ≡ None → HasNoWait c → HasPerformed true c (known last)
 
 -- There is a scenario that the source gives, of which that is so.
 pub record HasAllPerformed (n : Nucleus) (told : Option (List ℕ)) (status : Status) (closed : Closed) : Type 0 where
@@ -71,10 +74,19 @@ pub record HasAllPerformed (n : Nucleus) (told : Option (List ℕ)) (status : St
   pub given : IsGiven (layout_of n) told (Ok scene)
   pub all : IsAllPerformed n scene (worn_clock status) closed
 
--- The scenario was performed on the nucleus, which was then closed: it plays the scenario to its end where no clock was
--- worn, else up to that clock, which is at least 2^62 and that of an entry and of the closing pass.
-pub record IsPlayedOn (n : Nucleus) (c : Scene) (worn : Option ℕ) (closed : Closed) : Type 0 where
-  pub plays : EndsFor (Plays c.layout (callers_of c) (commands_by c)) worn closed
+-- these scripts are stuck, where no clock was worn
+abbrev pub StuckFor : Option ℕ → Scene → List ℕ → List Stuck → Type 0
+StuckFor None c done stuck = stuck ≡ stuck_of c done
+StuckFor (Some clock) c done stuck = Unit {0}
+
+-- The scenario was performed on the nucleus, which was then closed: it plays the commands that were done, each await by a
+-- message that came, and what is left waits for what will not come, where no clock was worn, else up to that clock, which
+-- is at least 2^62 and that of an entry and of the closing pass.
+pub record IsPlayedOn (n : Nucleus) (c : Scene) (worn : Option ℕ) (stuck : List Stuck) (closed : Closed) : Type 0 where
+  pub done : List ℕ
+  pub plays : EndsFor (Plays c.layout (callers_of c) (fronts_of c done)) worn closed
+  pub stands : EndsFor (λ s z. StandsUnless s c.layout c done (past_of z)) worn closed
+  pub stuck_is : StuckFor worn c done stuck
   pub origin : IsOfNucleus n closed
   pub all : IsAllPerformed n c worn closed
   pub high : (clock : ℕ) → worn ≡ Some clock → CLOCK_LIMIT ≤ clock

@@ -8,11 +8,13 @@ ghost use Rattle.chorus_run.specs.Threads.{IsPlayedOn};
 
 use crate::closing::{close, close_unused, stop};
 use crate::finishing::finish;
+use crate::standing::stuck_in;
 use chorus_io::{Sink, Source};
 use chorus_nucleus::{Nucleus, Pass};
 use chorus_perform::{Gate, perform};
-use chorus_report::{Finished, Played, gave_up, read_without_awaits};
+use chorus_report::{Finished, Played, gave_up, read_scenario};
 use chorus_scene::Scenario;
+use chorus_show::Stuck;
 use std::alloc::{AllocError, Global};
 use std::sync::Wait;
 use std::thread::Threads;
@@ -21,7 +23,8 @@ use std::thread::Threads;
 /// made, closes the nucleus, and writes the journal and the summary.
 ///
 /// The nucleus was just started, and the pass is its opening one. Where a clock is worn before all is done, nothing is written. Want of
-/// memory is the one ending without a cause.
+/// memory is the one ending without a cause; it is told too where a script that waits gave up before what it waits for came, as may be where
+/// no thread could be made for another.
 pub fn run<R: Threads + Wait + Sync, S: Source, K: Sink, G: Gate>(
     alloc: Global,
     rt: &R,
@@ -36,18 +39,20 @@ pub fn run<R: Threads + Wait + Sync, S: Source, K: Sink, G: Gate>(
     ensures { EndsAsRun nucleus result S.left S.faults S.reliable
         source.old source.new K.held K.faults sink.old sink.new }
 {
-    let scenario = match read_without_awaits(alloc, source, nucleus.layout()) {
+    let scenario = match read_scenario(alloc, source, nucleus.layout()) {
         Ok(scenario) => scenario,
         Err(status) => {
             close_unused(rt, nucleus, pass);
             return gave_up(status);
         }
     };
-    let played = play(alloc, rt, nucleus, pass, &scenario, gate);
-    finish(alloc, rt, sink, played)
+    match play(alloc, rt, nucleus, pass, &scenario, gate) {
+        Ok((played, stuck)) => finish(alloc, rt, sink, Ok(played), &stuck),
+        Err(error) => finish(alloc, rt, sink, Err(error), &[]),
+    }
 }
 
-/// Performs the scenario, and closes the nucleus.
+/// Performs the scenario, and closes the nucleus. Gives also which scripts are stuck, where no clock was worn.
 fn play<R: Threads + Wait + Sync, G: Gate>(
     alloc: Global,
     rt: &R,
@@ -55,18 +60,21 @@ fn play<R: Threads + Wait + Sync, G: Gate>(
     mut pass: Pass,
     scenario: &Scenario,
     gate: &G,
-) -> Result<Played, AllocError>
+) -> Result<(Played, Vec<Stuck>), AllocError>
     requires pass { IsPassOf nucleus pass }
     requires opening { IsOpening pass }
     requires layout { scenario.now.layout ≡ layout_of nucleus }
     ensures { IfOk result
-        (λ played. IsPlayedOn nucleus scenario.now played.worn played.closed) }
+        (λ r. IsPlayedOn nucleus scenario.now r.0.worn r.1.items r.0.closed) }
 {
     let _layout = scenario.layout(); // tells what a scenario keeps
     let performed = perform(alloc, rt, &nucleus, &mut pass, scenario, gate);
     let closed = close(rt, nucleus, pass)?;
     match performed {
-        Ok(()) => Ok(Played { closed, worn: None }),
-        Err(why) => stop(alloc, closed, why),
+        Ok(_) => {
+            let stuck = stuck_in(alloc, scenario, &closed)?;
+            Ok((Played { closed, worn: None }, stuck))
+        }
+        Err(why) => Ok((stop(alloc, closed, why)?, Vec::new(alloc))),
     }
 }

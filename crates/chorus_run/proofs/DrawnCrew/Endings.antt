@@ -10,7 +10,6 @@ use Rattle.chorus_turn.specs.declared.knowledge.Knowledge.{Knowledge}
 use Rattle.chorus_turn.specs.declared.knowledge.Note.{Note}
 use Rattle.chorus_turn.specs.declared.knowledge.Placed.{Placed}
 use Rattle.std.proofs.lemmas.List.Elements.{All-nil}
-use Rattle.chorus_calls.specs.Callers.{Seated}
 use Rattle.law_network.specs.Calls.{first_actor}
 use Rattle.law_closing.specs.Actors.{AreIn}
 use Rattle.law_closing.specs.Places.{PlaceNote}

@@ -6,13 +6,13 @@ ghost use Rattle.chorus_merge.specs.Merge.{merged};
 ghost use Rattle.chorus_merge.specs.Steps.{journals_of, lent};
 ghost use Rattle.chorus_show.specs.Bounds.{AreWithin};
 ghost use Rattle.chorus_show.specs.Journal.{journal_head, journal_lines};
-ghost use Rattle.chorus_show.specs.Report.{report};
-ghost use Rattle.chorus_show.specs.Summary.{summary_text};
+ghost use Rattle.chorus_show.specs.Report.{report_with, summary_with};
 ghost use Rattle.chorus_run.specs.ReportParts.Parts.{ArePrinted, PrintsPart, whole};
 
 use chorus_entry::Entry;
 use chorus_merge::merge_lent;
-use chorus_show::{journal_head, journal_lines, lent_summary_text};
+use chorus_report::push_stuck_lines;
+use chorus_show::{Stuck, journal_head, journal_lines, lent_summary_text};
 use std::alloc::{AllocError, Global};
 use std::thread;
 use std::thread::Threads;
@@ -24,18 +24,19 @@ const PRINTERS: usize = 4;
 const LINE: usize = 40;
 
 /// The report of the merge of the journals, in parts: the first line, the lines of the entries by threads of their own where they can be
-/// made, and the summary text. No entry is copied. The only error is want of memory.
+/// made, and the summary text with the lines of what is stuck. No entry is copied. The only error is want of memory.
 pub(crate) fn report_parts<R: Threads + Sync>(
     alloc: Global,
     rt: &R,
     journals: &[Vec<Entry>],
+    stuck: &[Stuck],
 ) -> Result<Vec<Vec<u8>>, AllocError>
     ensures text { IfOk result (λ parts.
-        whole parts.items ≡ report (merged (journals_of journals.now))) }
+        whole parts.items ≡ report_with stuck.now (merged (journals_of journals.now))) }
     ensures within { OnOk result (AreWithin (merged (journals_of journals.now))) }
 {
     let entries = merge_lent(alloc, journals)?;
-    entry_parts(alloc, rt, &entries)
+    entry_parts(alloc, rt, &entries, stuck)
 }
 
 /// The report of the entries that are lent, in parts.
@@ -43,14 +44,16 @@ fn entry_parts<R: Threads + Sync>(
     alloc: Global,
     rt: &R,
     entries: &[&Entry],
+    stuck: &[Stuck],
 ) -> Result<Vec<Vec<u8>>, AllocError>
-    ensures text { IfOk result (λ parts. whole parts.items ≡ report (lent entries.now)) }
+    ensures text { IfOk result
+        (λ parts. whole parts.items ≡ report_with stuck.now (lent entries.now)) }
     ensures within { OnOk result (AreWithin (lent entries.now)) }
 {
     let (lines, summary) = thread::join(
         rt,
         || line_parts(alloc, rt, entries),
-        || summary_part(alloc, entries),
+        || summary_part(alloc, entries, stuck),
     );
     let mut lines = lines?;
     let summary = summary?;
@@ -70,12 +73,13 @@ fn head_part(alloc: Global, count: usize) -> Result<Vec<u8>, AllocError>
     Ok(text)
 }
 
-/// The last part of a report: the summary text of the entries.
-fn summary_part(alloc: Global, entries: &[&Entry]) -> Result<Vec<u8>, AllocError>
-    ensures { IfOk result (λ text. text.items ≡ summary_text (lent entries.now)) }
+/// The last part of a report: the summary text of the entries, with the lines of what is stuck.
+fn summary_part(alloc: Global, entries: &[&Entry], stuck: &[Stuck]) -> Result<Vec<u8>, AllocError>
+    ensures { IfOk result (λ text. text.items ≡ summary_with stuck.now (lent entries.now)) }
 {
     let mut text = Vec::new(alloc);
     lent_summary_text(entries, &mut text)?;
+    push_stuck_lines(stuck, &mut text)?;
     Ok(text)
 }
 

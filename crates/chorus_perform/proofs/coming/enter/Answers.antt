@@ -12,7 +12,7 @@ pub loop-index-preserved : goal.loop-index-preserved
 loop-index-preserved c =
     let lt : c.loop-index.index < length c.args.scenario.now.scripts = subst (λ xs. c.loop-index.index < length xs) c.scripts-index-end.ensures c.loop-index-test.true in
     let at = found-at c.scripts.result.now c.args.scenario.now.scripts c.loop-index.index c.index-scripts-index.result c.scripts.ensures lt c.index-scripts-index.is in
-    let new = new-ready c.args.nucleus.now c.args.scenario.now c.loop-index.index c.index-scripts-index.result c.actor.result c.loop-index.pass c.enter.new.pass c.in-Ok.entered at lt c.in-Ok.ensures.ok
+    let new = new-ready (record {}) c.args.nucleus.now c.args.scenario.now c.loop-index.index c.index-scripts-index.result c.actor.result c.loop-index.pass c.enter.new.pass c.in-Ok.entered at lt c.in-Ok.ensures.ok
     c.loop-index.invariant.1.keeper.made c.actor.ensures in
     let begun = (caller_of c.args.pass.now).last in
     let last = begins-at c.args.nucleus.now c.actor.result c.loop-index.pass c.enter.new.pass c.in-Ok.entered c.in-Ok.ensures.ok ∙ ap (λ (w : Seated). w.last) c.loop-index.invariant.1.caller in (

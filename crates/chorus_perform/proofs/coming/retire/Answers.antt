@@ -19,9 +19,9 @@ loop-runner-preserved c =
     let len : vec_len now ≡ length now.items = omega (arith, now.ok.0) in
     let was : vec_len c.loop-runner.runners ≡ vec_len now + 1 =
     (let more = ap (λ (xs : List Runner). length xs) items in let sum = length-append now.items (runner ∷ []) in omega (arith, c.loop-runner.runners.ok.0, now.ok.0, more, sum)) in (
-      c.retire_one-all.ensures.retires.pass,
+      c.retire_one.ensures.retires.pass,
       both.0,
-      retired-step n scene c.loop-runner.all c.retire_one-all.result runner c.args.pass.now c.loop-runner.pass c.retire_one-all.new.pass (vec_len c.loop-runner.runners) (vec_len now) (vec_len c.args.runners)
-          was c.loop-runner.invariant.3 c.retire_one-all.ensures.done c.loop-runner.invariant.2 (subst (λ k. IsEndingAt n scene begun k runner) (let e : length now.items ≡ vec_len now = omega (arith, len) in e) both.1) c.retire_one-all.ensures.retires,
+      retired-step n scene c.loop-runner.how c.retire_one.result c.both-how.result runner c.args.pass.now c.loop-runner.pass c.retire_one.new.pass (vec_len c.loop-runner.runners) (vec_len now) (vec_len c.args.runners)
+          was c.loop-runner.invariant.3 c.retire_one.ensures.ended c.both-how.ensures c.loop-runner.invariant.2 (subst (λ k. IsEndingAt n scene begun k runner) (let e : length now.items ≡ vec_len now = omega (arith, len) in e) both.1) c.retire_one.ensures.retires,
       omega (arith, was, c.loop-runner.invariant.3),
     )

@@ -10,5 +10,5 @@ decreases-loop-runner l = vec_len l.runners
 abbrev pub invariant-loop-runner : goal.invariant-loop-runner
 invariant-loop-runner l =
     IsPassOf l.nucleus l.pass × AreEnding l.nucleus l.scenario (caller_of l.fn.pass).last l.runners.items
-    × HasRetired l.all l.scenario (vec_len l.runners) (vec_len l.fn.runners - vec_len l.runners) l.fn.pass l.pass
+    × HasRetired l.how l.scenario (vec_len l.runners) (vec_len l.fn.runners - vec_len l.runners) l.fn.pass l.pass
     × (vec_len l.runners ≤ vec_len l.fn.runners)

@@ -1,8 +1,9 @@
-use Rattle.chorus_perform.proofs.Halts.{unworn-then}
-use Rattle.std.proofs.Common.{◌∙◌, true, false, ap, refl}
+use Rattle.std.proofs.Common.{◌∙◌, true, false, ap, refl, sym}
+use Rattle.std.proofs.lemmas.Bool.{false≢true}
 use Rattle.chorus_calls.specs.Callers.{Seated}
-use Rattle.chorus_perform.proofs.Steps.{on-ok, on-err}
-use Rattle.chorus_perform.proofs.Leavings.{is-set-up, performed-setup, performed-on, less-done}
+use Rattle.chorus_perform.specs.Runners.{is_whole}
+use Rattle.chorus_perform.proofs.Steps.{on-err}
+use Rattle.chorus_perform.proofs.Leavings.{is-set-up, performed-setup, performed-on, setup-on, less-done}
 use Rattle.chorus_perform.proofs.performing.perform_all.Goals as goal
 
 pub run_scripts-requires-clause-setup : goal.run_scripts-requires-clause-setup
@@ -12,15 +13,22 @@ pub returns-in_err-set_up-clause-stopped : goal.returns-in_err-set_up-clause-sto
 returns-in_err-set_up-clause-stopped g c =
     on-err c.from_residual.result _ (performed-setup c.args.scenario.now c.args.pass.now c.set_up.new.pass c.requires.opening c.in_err-set_up.ensures.err)
 
-pub returns-clause-ok : goal.returns-clause-ok
-returns-clause-ok g c =
-    on-ok c.settle.result _ (performed-on c.args.scenario.now true c.run_scripts.new.pass c.settle.new.pass (ap (λ (w : Seated). w.actor) c.run_scripts.ensures.caller ∙ c.in_ok-set_up.ensures.ok.actor ∙ c.requires.opening.actor) c.if-not-run_scripts.ensures.performed c.settle.ensures.goes)
+pub returns-in_err-all-clause-stopped : goal.returns-in_err-all-clause-stopped
+returns-in_err-all-clause-stopped g c =
+    on-err c.from_residual-in_err-all.result _ (less-done c.args.scenario.now false (is_whole c.run_scripts.result) _ (λ e. absurd (false≢true e)) c.run_scripts.ensures.performed)
 
-pub returns-clause-stopped : goal.returns-clause-stopped
-returns-clause-stopped g c =
-    on-err c.settle.result _ (less-done c.args.scenario.now false true _ (λ e. refl) (performed-on c.args.scenario.now true c.run_scripts.new.pass c.settle.new.pass (ap (λ (w : Seated). w.actor) c.run_scripts.ensures.caller ∙ c.in_ok-set_up.ensures.ok.actor ∙ c.requires.opening.actor) c.if-not-run_scripts.ensures.performed c.settle.ensures.goes))
+pub returns-in_err-settle-clause-stopped : goal.returns-in_err-settle-clause-stopped
+returns-in_err-settle-clause-stopped g c =
+    on-err c.from_residual-in_err-settle.result _ (less-done c.args.scenario.now false (is_whole c.run_scripts.result) _ (λ e. absurd (false≢true e))
+    (performed-on c.args.scenario.now (is_whole c.run_scripts.result) c.run_scripts.new.pass c.settle.new.pass (ap (λ (w : Seated). w.actor) c.run_scripts.ensures.caller ∙ c.in_ok-set_up.ensures.ok.actor ∙ c.requires.opening.actor) c.run_scripts.ensures.performed c.settle.ensures.goes))
+
+pub returns-clause-performed : goal.returns-clause-performed
+returns-clause-performed g c =
+    performed-on c.args.scenario.now c.in_ok-all.all c.run_scripts.new.pass c.settle.new.pass (ap (λ (w : Seated). w.actor) c.run_scripts.ensures.caller ∙ c.in_ok-set_up.ensures.ok.actor ∙ c.requires.opening.actor) c.in_ok-all.ensures.performed c.settle.ensures.goes
+
+pub returns-clause-setup : goal.returns-clause-setup
+returns-clause-setup g c =
+    setup-on c.args.scenario.now c.run_scripts.new.pass c.settle.new.pass (ap (λ (w : Seated). w.actor) c.run_scripts.ensures.caller ∙ c.in_ok-set_up.ensures.ok.actor ∙ c.requires.opening.actor) c.run_scripts.ensures.setup c.settle.ensures.goes
 
 pub returns-clause-unworn : goal.returns-clause-unworn
-returns-clause-unworn g c =
-    unworn-then c.args.pass.now c.run_scripts.new.pass c.settle.new.pass c.settle.result
-    (c.if-not-run_scripts.ensures.unworn refl ∙ c.in_ok-set_up.ensures.unworn) c.settle.ensures.unworn
+returns-clause-unworn g c = c.in_ok-settle.ensures.unworn ∙ (c.in_ok-all.ensures.unworn ∙ c.in_ok-set_up.ensures.unworn)

@@ -1,19 +1,19 @@
-use Rattle.std.proofs.lemmas.Bool.{and_parts}
-use Rattle.std.proofs.Common.{◌≡◌, List, drop, length, ap, arith, sym, subst, Vec, ◌∙◌}
+use Rattle.std.proofs.Common.{◌≡◌, true, IfOk, OnOk, List, drop, length, ap, arith, sym, subst, Vec, ◌∙◌}
 use Rattle.std.specs.Vec.{vec_len}
 use Rattle.std.specs.Global.{Global}
 use Rattle.chorus_perform.specs.declared.runner.Runner.{Runner}
 use Rattle.chorus_calls.specs.Callers.{Seated}
 use Rattle.chorus_nucleus.specs.SiteTurns.Turning.{HasSeenMore}
 use Rattle.chorus_nucleus.proofs.Behind.{more-itself}
-use Rattle.chorus_nucleus.specs.Passes.{caller_of}
-use Rattle.chorus_perform.specs.Runners.{AreEntered, AreEnding, HasRetired}
-use Rattle.chorus_perform.proofs.Leavings.{all-ended, none-ended, on-ok-so, performed-alone, performed-so, put-back}
+use Rattle.chorus_nucleus.specs.Passes.{caller_of, known, worn_by}
+use Rattle.chorus_perform.specs.Runners.{AreEntered, AreEnding, HasRetired, is_whole}
+use Rattle.chorus_perform.specs.Scripts.{HasPerformed, PerformsSetup}
+use Rattle.chorus_perform.proofs.Leavings.{all-ended, none-ended, on-ok-so, on-ok-map, on-ok-came, plain-came, performed-alone, performed-so, put-back}
 use Rattle.chorus_perform.proofs.performing.run_scripts.Goals as goal
 use Rattle.chorus_perform.proofs.performing.run_scripts.Goals.{then-entered, else-entered}
 
-pub retire-requires-clause-ending : goal.retire-requires-clause-ending
-retire-requires-clause-ending g c =
+pub retire-how-requires-clause-ending : goal.retire-how-requires-clause-ending
+retire-how-requires-clause-ending g c =
     let begun = (caller_of c.enter.new.pass).last in
     let entered = subst (λ m. AreEntered c.args.nucleus.now c.args.scenario.now m c.enter.new.runners.items) (sym (ap (λ (w : Seated). w.last) c.enter.ensures.entered.caller)) c.enter.ensures.runners in
     elim c.if-entered.branch [
@@ -36,20 +36,30 @@ returns-clause-performed g c =
       | then-entered w ↦ ap (λ (v : Vec Runner Global). vec_len v) w.runners-is
       | else-entered w ↦ ap (λ (v : Vec Runner Global). vec_len v) w.runners-is
     ] in
-    performed-so scene c.retire.result c.is_ok-entered.result c.args.pass.now c.enter.new.pass c.retire.new.pass (vec_len c.enter.new.runners) c.requires.setup c.enter.ensures.entered
-    (subst (λ k. HasRetired c.retire.result scene 0 k c.enter.new.pass c.retire.new.pass) same c.retire.ensures.retired)
-    (λ t. on-ok-so c.enter.result c.is_ok-entered.result _ c.is_ok-entered.ensures.value t c.enter.ensures.all)
+    subst (λ r. HasPerformed (is_whole r) scene (known c.retire-how.new.pass)) (sym c.if_came.ensures)
+    (performed-so scene c.retire-how.result c.is_ok-entered.result c.args.pass.now c.enter.new.pass c.retire-how.new.pass (vec_len c.enter.new.runners) c.requires.setup c.enter.ensures.entered
+    (subst (λ k. HasRetired c.retire-how.result scene 0 k c.enter.new.pass c.retire-how.new.pass) same c.retire-how.ensures.retired)
+    (λ t. on-ok-so c.enter.result c.is_ok-entered.result _ c.is_ok-entered.ensures.value t c.enter.ensures.all))
 
 pub returns-in_default-clause-performed : goal.returns-in_default-clause-performed
 returns-in_default-clause-performed g c = performed-alone c.args.scenario.now c.args.pass.now c.requires.setup
 
+pub returns-clause-setup : goal.returns-clause-setup
+returns-clause-setup g c = subst (PerformsSetup c.args.scenario.now) (sym (c.retire-how.ensures.retired.mine ∙ c.enter.ensures.entered.mine)) c.requires.setup.setup
+
 pub returns-clause-caller : goal.returns-clause-caller
 returns-clause-caller g c =
-    subst (λ w. HasSeenMore w (caller_of c.retire.new.pass)) c.enter.ensures.entered.caller c.retire.ensures.retired.caller
+    subst (λ w. HasSeenMore w (caller_of c.retire-how.new.pass)) c.enter.ensures.entered.caller c.retire-how.ensures.retired.caller
 
 pub returns-in_default-clause-caller : goal.returns-in_default-clause-caller
 returns-in_default-clause-caller g c = more-itself (caller_of c.args.pass.now)
 
+pub returns-clause-whole : goal.returns-clause-whole
+returns-clause-whole g c = λ none.
+    subst (λ r. IfOk r (λ all. all ≡ true)) (sym c.if_came.ensures) (plain-came c.is_ok-entered.result c.retire-how.result (c.retire-how.ensures.retired.plain none))
+
 pub returns-clause-unworn : goal.returns-clause-unworn
-returns-clause-unworn g c e =
-    let both = and_parts c.retire.result c.is_ok-entered.result e in c.retire.ensures.retired.unworn both.0 ∙ c.enter.ensures.entered.worn
+returns-clause-unworn g c =
+    let same = worn_by c.retire-how.new.pass ≡ worn_by c.args.pass.now in
+    subst (λ r. OnOk r same) (sym c.if_came.ensures)
+    (on-ok-came c.is_ok-entered.result c.retire-how.result same (on-ok-map c.retire-how.result (worn_by c.retire-how.new.pass ≡ worn_by c.enter.new.pass) same (λ e. e ∙ c.enter.ensures.entered.worn) c.retire-how.ensures.retired.unworn))
