@@ -219,7 +219,7 @@ class Net:
         if w == 'newport':
             a = command[1]
             return self.l.place_at(a[0], a) if self.l.has_actor(a) else home
-        if w in ('take', 'move', 'delete'):
+        if w in ('take', 'await', 'move', 'delete'):
             return self.l.place_at(c.actor[0], command[1])
         if w == 'newgroup':
             return self.l.first(command[1]) if 1 <= command[1] <= self.l.sites else home
@@ -227,11 +227,17 @@ class Net:
             return self.l.first(command[1][0]) if command[1][0] <= self.l.sites else home
         return home
 
+    def may_act(self, seat, command):
+        """Whether the command may come: an await does where its port, held here by the caller's actor, has a message that waits."""
+        c = self.callers[seat]
+        rec = self.places[self.place_for(c, command)].ports.get(command[1]) if command[0] == 'await' else None
+        return command[0] != 'await' or (rec is not None and rec[0] == c.actor and bool(rec[4]))
+
     def act(self, seat, command):
         c = self.callers[seat]
         p = self.place_for(c, command)
         place = self.places[p]
-        w = command[0]
+        w = 'take' if command[0] == 'await' else command[0]
         if w == 'send':
             return self.post(c, ('port', command[1]), ('plain',), command[2])
         if w in ('all', 'one'):
@@ -392,7 +398,7 @@ def act_text(act):
         return ' '.join(['delete', show(act[1])] + [show_id(x) for x in act[2:]])
     return ' '.join([w] + [show(a) if isinstance(a, tuple) else str(a) for a in act[1:]])
 
-def facts(n, told):
+def facts(n, scripts, told):
     lines = []
     for k, acts in enumerate(told, 1):
         for i, a in enumerate(acts, 1):
@@ -411,6 +417,9 @@ def facts(n, told):
                 rec = n.places[r].ports.get(q)
                 if rec is not None:
                     lines.append(' '.join(['port', show(q), show(rec[0])] + [show_id(m[0]) for m in rec[4]]))
+    for k, (script, acts) in enumerate(zip(scripts, told), 1):
+        if len(acts) < len(script):
+            lines.append(f"stuck {k} {len(acts) + 1}")
     return tuple(lines)
 
 # Scenarios.
@@ -463,7 +472,7 @@ def begin(text, layout=None):
 
 def moves(n, scripts, at):
     for k, s in enumerate(scripts):
-        if at[k] < len(s):
+        if at[k] < len(s) and n.may_act(k + 1, s[at[k]]):
             yield ('step', k + 1)
     for link in sorted(n.links):
         if n.links[link]:
@@ -478,9 +487,10 @@ def follow(text, steps, layout=None):
         f = s.split()
         if f[0] == 'step':
             k = int(f[1]) - 1
+            assert n.may_act(k + 1, scripts[k][at[k]]), 'an await that may not come'
             told[k] += (n.act(k + 1, scripts[k][at[k]]),)
             at[k] += 1
         else:
             n.deliver(int(f[1]), int(f[2]))
     assert not any(True for _ in moves(n, scripts, at)), 'not whole'
-    return facts(n, told)
+    return facts(n, scripts, told)

@@ -3,9 +3,9 @@
 use Rattle.std.proofs.Common.{ℕ, ◌≡◌, ◌⊎◌, List, Option, Result, Ok, Err, inl, inr, refl, sym, subst}
 use Rattle.chorus_io.specs.Count.{Rose}
 use Rattle.chorus_ui.specs.declared.layout.Layout.{Layout}
-use Rattle.chorus_report.specs.Ending.{EndsReadingNoWait}
+use Rattle.chorus_report.specs.Ending.{EndsReading}
 use Rattle.chorus_report.specs.Output.{EndsUnread, GivesUp, Writes}
-use Rattle.chorus_report.specs.Reading.{IsGivenNoWait}
+use Rattle.chorus_report.specs.Reading.{IsGiven}
 use Rattle.chorus_scene.specs.Scene.{Scene}
 use Rattle.chorus_show.specs.declared.status.Status.{Status}
 use Rattle.chorus_show.specs.declared.status.Status.TheVariants as statuses
@@ -17,7 +17,7 @@ use Rattle.chorus_check.specs.Ends.{EndsAsCheck, IsCheck, status_of}
 
 module _ {S K : Type 0} (l : Layout) (asked : Schedules) (left : S → Option (List ℕ)) (faults : S → ℕ) (reliable : S → Type 0) (from rest : S) (held : K → Option (List ℕ)) (failures : K → ℕ) where
   abbrev pub Reads : Status → Type 0
-  Reads status = EndsReadingNoWait l status left faults reliable from rest
+  Reads status = EndsReading l status left faults reliable from rest
 
   abbrev pub EndsSo : K → K → Result Checked Status → Type 0
   EndsSo old new end = EndsAsCheck l asked end left faults reliable from rest held failures old new
@@ -32,7 +32,7 @@ module _ {S K : Type 0} (l : Layout) (asked : Schedules) (left : S → Option (L
   gave-up k statuses.WriteFault h reads = absurd h
   gave-up k (statuses.Worn clock) h reads = absurd h
 
-  module _ (c : Scene) (given : IsGivenNoWait l (left from) (Ok c)) (reads : (status : Status) → EndsUnread status → Reads status) where
+  module _ (c : Scene) (given : IsGiven l (left from) (Ok c)) (reads : (status : Status) → EndsUnread status → Reads status) where
     -- for want of memory, or a clock
     pub wanted : (k : K) → EndsSo k k (Err statuses.Memory)
     wanted k = record { reads = reads statuses.Memory tt; checks = tt; write_fault = λ e. absurd (cc); unwritten = (λ a. absurd (cc), λ b. refl) }

@@ -1,7 +1,6 @@
 -- Where a check ends with all claims holding, each is so of every replay.
 -- c is a scenario, ks are claims, vs is what is said of them, n the number of the first.
-use Rattle.std.proofs.Common.{ℕ, zero, suc, ◌≡◌, ◌+◌, ◌<◌, Bool, true, false, cond, not, List, [], ◌∷◌, length, get_or, Option, Some, None, slice_get, ◌⊎◌, inl, inr, refl, sym, ◌∙◌, ap, arith}
-use Rattle.std.specs.List.{All}
+use Rattle.std.proofs.Common.{ℕ, zero, suc, ◌≡◌, ◌+◌, ◌<◌, Bool, true, false, cond, not, List, [], ◌∷◌, length, get_or, Option, Some, None, slice_get, refl, sym, ◌∙◌, ap, arith}
 use Rattle.std.proofs.lemmas.Bool.{false≢true}
 use Rattle.chorus_claims.specs.Pieces.{Claim}
 use Rattle.chorus_scene.specs.Scene.{Scene}
@@ -10,7 +9,7 @@ use Rattle.chorus_explore.specs.Checked.{Judged, Verdict, verdicts_of}
 use Rattle.chorus_explore.specs.Shown.{ReplaysAreWhole}
 use Rattle.chorus_explore.proofs.Deciding.{met-along}
 use Rattle.chorus_check.specs.declared.checked.Checked.TheVariants.{Holds}
-use Rattle.chorus_check.specs.Kept.{HoldingClaimsAreMet, IsMetBy, IsShownPossible}
+use Rattle.chorus_check.specs.Kept.{HoldingClaimsAreMet, IsShownPossible}
 use Rattle.chorus_check.specs.Words.{checked_by, claim_fails, claims_of, first_failed, first_open, is_open}
 
 none-failed : (n : ℕ) (ks : List Claim) (vs : List Verdict) → first_failed n ks vs ≡ None → (i : ℕ) (k : Claim) (v : Verdict) → slice_get ks i ≡ Some k → slice_get vs i ≡ Some v → claim_fails k v ≡ false
@@ -60,8 +59,8 @@ module _ (c : Scene) where
 pub holding-claims-are-met : ReplaysAreWhole → HoldingClaimsAreMet
 holding-claims-are-met replays c most text is shape = (
   λ i d lt. (each i d lt).1,
-  λ steps status closed keeps ordered unworn.
-      (let one = replays c steps status closed shape keeps ordered unworn in
+  λ steps status closed keeps played unworn.
+      (let one = replays c steps status closed shape keeps played unworn in
       (one.0, (one.1.1, λ i d lt p. met-along c (get_or (claims_of c) i d) one.0 ((each i d lt).0 p) one.1.0))),
 )
   where

@@ -1,13 +1,13 @@
 -- How `check` ends.
--- A source and a sink are seen as `EndsReadingNoWait` and `EndsWriting` of chorus_report see them; from
+-- A source and a sink are seen as `EndsReading` and `EndsWriting` of chorus_report see them; from
 -- and rest are the source, old and new the sink, before and after; told is what the source tells,
 -- asked are the schedules of which claims are asked.
 use Rattle.std.specs.Prelude.{ℕ, ◌≡◌, ◌≢◌, ◌⊎◌, List, map, Option, Result, Ok, Err, IfErr}
 use Rattle.chorus_io.specs.Count.{Rose}
 use Rattle.chorus_ui.specs.declared.layout.Layout.{Layout}
-use Rattle.chorus_report.specs.Ending.{EndsReadingNoWait}
+use Rattle.chorus_report.specs.Ending.{EndsReading}
 use Rattle.chorus_report.specs.Output.{Writes}
-use Rattle.chorus_report.specs.Reading.{IsGivenNoWait}
+use Rattle.chorus_report.specs.Reading.{IsGiven}
 use Rattle.chorus_scene.specs.Scene.{Scene}
 use Rattle.chorus_show.specs.declared.status.Status.{Status}
 use Rattle.chorus_show.specs.declared.status.Status.TheVariants.{Done, WriteFault, Worn}
@@ -47,7 +47,7 @@ status_of (Err status) = status
 pub record TellsClaims (l : Layout) (asked : Schedules) (end : Result Checked Status)
     (told old new : Option (List ℕ)) : Type 0 where
   pub scene : Scene
-  pub given : IsGivenNoWait l told (Ok scene)
+  pub given : IsGiven l told (Ok scene)
   pub text : List ℕ
   pub checked : Checked
   pub is : IsCheck scene asked text checked
@@ -65,7 +65,7 @@ ChecksBy l asked (Err _) told old new = Unit {0}
 pub record EndsAsCheck {S K : Type 0} (l : Layout) (asked : Schedules) (end : Result Checked Status)
     (left : S → Option (List ℕ)) (faults : S → ℕ) (reliable : S → Type 0) (from rest : S) (held : K → Option (List ℕ))
     (failures : K → ℕ) (old new : K) : Type 0 where
-  pub reads : EndsReadingNoWait l (status_of end) left faults reliable from rest
+  pub reads : EndsReading l (status_of end) left faults reliable from rest
   pub checks : ChecksBy l asked end (left from) (held old) (held new)
   pub write_fault : end ≡ Err WriteFault → Rose (failures old) (failures new)
   pub unwritten : IfErr end (λ status. (status ≢ Done) × (status ≢ WriteFault → new ≡ old))

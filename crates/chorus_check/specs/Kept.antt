@@ -11,9 +11,8 @@ use Rattle.chorus_scene.specs.declared.scenario.Step.{Step}
 use Rattle.chorus_show.specs.declared.status.Status.{Status}
 use Rattle.chorus_net.specs.declared.closed.Closed.{Closed}
 use Rattle.chorus_net.specs.Closing.{IsClosed}
-use Rattle.chorus_replay.specs.Order.{tasks}
-use Rattle.chorus_replay.specs.Ordered.{IsOrdered}
 use Rattle.chorus_replay.specs.Laws.{worn_clock}
+use Rattle.law_replay.specs.Shown.{IsPlayed}
 use Rattle.chorus_explore.specs.Checked.{IsAsked, IsMetAlong}
 use Rattle.chorus_explore.specs.Stages.{facts_at, position}
 use Rattle.chorus_check.specs.declared.checked.Checked.TheVariants.{Holds}
@@ -38,5 +37,5 @@ HoldingClaimsAreMet =
     (c : Scene) (most : ℕ) (text : List ℕ) → IsCheck c (Schedules.All most) text Holds → IsLayout c.layout →
     All (IsShownPossible c) (claims_of c)
     × ((steps : List Step) (status : Status) (closed : Closed) → Keeps (record c { schedule = steps }) →
-    IsOrdered c.layout (tasks (record c { schedule = steps })) status closed → worn_clock status ≡ None →
+    IsPlayed (record c { schedule = steps }) status closed → worn_clock status ≡ None →
     (ms : List Move) × (IsClosed (position c ms).net closed × All (IsMetBy c ms) (claims_of c)))

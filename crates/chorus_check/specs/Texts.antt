@@ -3,7 +3,6 @@
 -- the lines where the schedules lead, n is the number of a claim.
 use Rattle.std.specs.Prelude.{ℕ, ◌+◌, if◌then◌else◌, Bool, List, [], ◌∷◌, ◌++◌, length, reverse, codes, decimal}
 use Rattle.std.specs.List.{flat_map}
-use Rattle.law_explore.specs.declared.moves.Move.{Move}
 use Rattle.chorus_claims.specs.Pieces.{Claim}
 use Rattle.chorus_show.specs.Journal.{count_line}
 use Rattle.chorus_show.specs.Phrases.{phrase}

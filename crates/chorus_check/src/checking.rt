@@ -15,7 +15,7 @@ use crate::texts::check_text;
 use chorus_claims::{Claim, read_claim};
 use chorus_explore::{ExploreFault, check_scenario, draw_scenario};
 use chorus_io::{Sink, Source, write_all};
-use chorus_report::read_without_awaits;
+use chorus_report::read_scenario;
 use chorus_scene::{ClaimText, Scenario};
 use chorus_show::Status;
 use chorus_ui::Layout;
@@ -38,7 +38,7 @@ pub fn check<S: Source, K: Sink>(
     ensures { EndsAsCheck layout schedules result S.left S.faults S.reliable source.old source.new
         K.held K.faults sink.old sink.new }
 {
-    let scenario = match read_without_awaits(alloc, source, layout) {
+    let scenario = match read_scenario(alloc, source, layout) {
         Ok(scenario) => scenario,
         Err(status) => return Err(status),
     };

@@ -5,19 +5,18 @@ use Rattle.std.specs.List.{cons_option, flat_map, filter_map}
 use Rattle.std.proofs.lemmas.List.{reverse-append, length-reverse}
 use Rattle.std.proofs.lemmas.List.Concat.{flat_map-append}
 use Rattle.std.proofs.lemmas.List.Elements.{filter_map-append}
-use Rattle.chorus_entry.specs.declared.command.Command.{Command}
 use Rattle.chorus_entry.specs.declared.id.MsgId.{MsgId}
 use Rattle.law_network.specs.Network.{NetState}
 use Rattle.law_explore.specs.Alike.{NetsAlike}
 use Rattle.law_explore.specs.Positions.{AskAlike}
 use Rattle.law_explore.specs.Merging.{TellsOn, ComeToldAlike, NetsTellTheSame, PlacesTellTheSame}
-use Rattle.law_explore.specs.Outcome.{Fact, posted, posts_in, copies_in, facts_about, answers_from, answer_facts, message_facts, port_facts, outcome_with}
+use Rattle.law_explore.specs.Outcome.{Fact, posted, posts_in, copies_in, facts_about, answers_from, answer_facts, message_facts, port_facts, outcome_with, stuck_facts}
 use Rattle.law_explore.specs.Moment.{settled_from, settled_facts, post_facts, place_facts, moving_facts, member_facts, script_facts, moment_with}
-use Rattle.law_explore.specs.Races.{Told, with_answer}
+use Rattle.law_explore.specs.Races.{Order, Told, with_answer}
 use Rattle.law_explore.specs.declared.moves.Move.{Move}
 use Rattle.law_explore.specs.declared.moves.Move.TheVariants.{Go, Carry}
 use Rattle.law_machine.specs.PlaceState.{PlaceState}
-use Rattle.law_replay.specs.Shown.{race_of}
+use Rattle.law_replay.specs.Shown.{orders_of, race_of}
 use Rattle.chorus_scene.specs.Scene.{Scene, Script}
 use Rattle.chorus_net.specs.Sites.{net}
 use Rattle.chorus_explore.proofs.AlikeSites.Lists.{length-map}
@@ -33,13 +32,13 @@ first [] = 0
 first (n ∷ ns) = n
 
 -- what is left of the scripts of which so much is kept
-abbrev left-by : List Script → List (List ℕ × List MsgId) → List (List Command)
+abbrev left-by : List Script → List (List ℕ × List MsgId) → List (List Order)
 left-by [] kept = []
 left-by (s ∷ ss) [] = []
-left-by (s ∷ ss) (one ∷ kept) = drop (first one.0) s.commands ∷ left-by ss kept
+left-by (s ∷ ss) (one ∷ kept) = drop (first one.0) (orders_of s) ∷ left-by ss kept
 
 -- what is kept of scripts says what is left of them, and what is told
-shows : (asks : Bool) (k : ℕ) (ss : List Script) (lefts : List (List Command)) (tolds : List (List Told)) (ps : List Progress) → AreProgress asks k ss lefts tolds ps
+shows : (asks : Bool) (k : ℕ) (ss : List Script) (lefts : List (List Order)) (tolds : List (List Told)) (ps : List Progress) → AreProgress asks k ss lefts tolds ps
     → (lefts ≡ left-by ss (map kept_of ps)) × (tells_from asks k tolds ≡ map kept_of ps)
 shows asks k [] [] [] [] h = (refl, refl)
 shows asks k (s ∷ ss) (l ∷ lefts) (t ∷ tolds) (p ∷ ps) h =
@@ -61,7 +60,7 @@ come-alike c s t h g asks same nets =
     let other = shows t.asks 1 c.scripts q.left q.told t.scripts.items g.at.scripts in
     record {
       nets =
-          subst (λ (k : ℕ). NetsAlike (AskAlike s.asks) k p.net q.net) (sym (length-map (λ (script : Script). script.commands) c.scripts))
+          subst (λ (k : ℕ). NetsAlike (AskAlike s.asks) k p.net q.net) (sym (length-map orders_of c.scripts))
           (subst (λ (n : NetState). NetsAlike (AskAlike s.asks) (length c.scripts) n q.net) h.at.net
           (subst (λ (n : NetState). NetsAlike (AskAlike s.asks) (length c.scripts) (net s.sites) n) g.at.net nets));
       left = other.0 ∙ ap (left-by c.scripts) (sym same) ∙ sym one.0;
@@ -140,14 +139,18 @@ same-posts : (asks : Bool) (told other : List (List Told)) → tells_from asks 1
 same-posts asks told other e =
     posts-told asks 1 told ∙ ap (flat_map (λ (one : List ℕ × List MsgId). one.1)) (sym e) ∙ sym (posts-told asks 1 other)
 
-same-lines : (told other : List (List Told)) (ps : List PlaceState) → tells_from false 1 other ≡ tells_from false 1 told → outcome_lines (outcome_with told ps) ≡ outcome_lines (outcome_with other ps)
-same-lines told other ps e =
-    flat_map-append fact_line (answer_facts 1 told ++ message_facts told ps) (port_facts ps)
+same-lines : (scripts left : List (List Order)) (told other : List (List Told)) (ps : List PlaceState) → tells_from false 1 other ≡ tells_from false 1 told
+    → outcome_lines (outcome_with scripts left told ps) ≡ outcome_lines (outcome_with scripts left other ps)
+same-lines scripts left told other ps e =
+    flat_map-append fact_line (answer_facts 1 told ++ message_facts told ps ++ port_facts ps) (stuck_facts scripts left)
+    ∙ ap (λ xs. xs ++ outcome_lines (stuck_facts scripts left))
+    (flat_map-append fact_line (answer_facts 1 told ++ message_facts told ps) (port_facts ps)
     ∙ ap (λ xs. xs ++ flat_map fact_line (port_facts ps))
     (flat_map-append fact_line (answer_facts 1 told) (message_facts told ps)
     ∙ (λ i. lines i ++ flat_map fact_line (flat_map (facts_about ps) (flat_map (λ (x : MsgId). x ∷ copies_in x ps) (same-posts false told other e i))))
     ∙ sym (flat_map-append fact_line (answer_facts 1 other) (message_facts other ps)))
-    ∙ sym (flat_map-append fact_line (answer_facts 1 other ++ message_facts other ps) (port_facts ps))
+    ∙ sym (flat_map-append fact_line (answer_facts 1 other ++ message_facts other ps) (port_facts ps)))
+    ∙ sym (flat_map-append fact_line (answer_facts 1 other ++ message_facts other ps ++ port_facts ps) (stuck_facts scripts left))
   where
     lines : flat_map fact_line (answer_facts 1 told) ≡ flat_map fact_line (answer_facts 1 other)
     lines = answers-told 1 told ∙ ap (flat_map (λ (one : List ℕ × List MsgId). rest-of one.0)) (sym e) ∙ sym (answers-told 1 other)
@@ -156,15 +159,18 @@ pub comes-the-same : PlacesTellTheSame → (c : Scene) (ms os : List Move) → C
 comes-the-same law c ms os h =
     let p = position c ms in
     let q = position c os in
-    same-lines p.told q.told p.net.places h.told
-    ∙ ap outcome_lines (law false q.told p.net.places q.net.places h.nets.places)
+    let scripts = (race_of c).scripts in
+    same-lines scripts p.left p.told q.told p.net.places h.told
+    ∙ ap outcome_lines
+    (ap (λ (left : List (List Order)). outcome_with scripts left q.told p.net.places) (sym h.left)
+    ∙ law false scripts q.left q.told p.net.places q.net.places h.nets.places)
 
 -- the facts of a moment behind those of its answers
-abbrev behind-answers : List (List Command) → List (List Command) → List MsgId → NetState → List Fact
+abbrev behind-answers : List (List Order) → List (List Order) → List MsgId → NetState → List Fact
 behind-answers scripts left posts n =
     flat_map (post_facts n.places) posts ++ place_facts n.places ++ moving_facts n.packets ++ flat_map member_facts n.places ++ script_facts scripts left n.callers
 
-split : (scripts left : List (List Command)) (told : List (List Told)) (n : NetState)
+split : (scripts left : List (List Order)) (told : List (List Told)) (n : NetState)
     → outcome_lines (moment_with scripts left told n) ≡ outcome_lines (settled_facts 1 told) ++ outcome_lines (behind-answers scripts left (posts_in told) n)
 split scripts left told n =
     ap outcome_lines regrouped ∙ flat_map-append fact_line (settled_facts 1 told) (behind-answers scripts left (posts_in told) n)
@@ -178,7 +184,7 @@ split scripts left told n =
     regrouped =
         regroup (settled_facts 1 told) (flat_map (post_facts n.places) (posts_in told)) (place_facts n.places) (moving_facts n.packets) (flat_map member_facts n.places) (script_facts scripts left n.callers)
 
-same-moment : (scripts left : List (List Command)) (told other : List (List Told)) (n : NetState) → tells_from true 1 other ≡ tells_from true 1 told
+same-moment : (scripts left : List (List Order)) (told other : List (List Told)) (n : NetState) → tells_from true 1 other ≡ tells_from true 1 told
     → outcome_lines (moment_with scripts left told n) ≡ outcome_lines (moment_with scripts left other n)
 same-moment scripts left told other n e =
     split scripts left told n
@@ -194,4 +200,4 @@ facts-the-same law c ms os h =
     let q = position c os in
     let scripts = (race_of c).scripts in
     same-moment scripts p.left p.told q.told p.net h.told
-    ∙ ap outcome_lines (ap (λ (left : List (List Command)). moment_with scripts left q.told p.net) (sym h.left) ∙ law scripts q.left q.told p.net q.net h.nets)
+    ∙ ap outcome_lines (ap (λ (left : List (List Order)). moment_with scripts left q.told p.net) (sym h.left) ∙ law scripts q.left q.told p.net q.net h.nets)

@@ -20,7 +20,7 @@ use Rattle.law_network.specs.Network.{NetState, Act, happened, place, replied, t
 use Rattle.law_network.proofs.Events.Said.{act-goes}
 use Rattle.law_explore.specs.declared.moves.Move.TheVariants.{Go}
 use Rattle.law_explore.specs.Outcome.{post_in}
-use Rattle.law_explore.specs.Races.{Told, told_in}
+use Rattle.law_explore.specs.Races.{Order, Told, told_in}
 use Rattle.chorus_scene.specs.Limits.{Keeps}
 use Rattle.chorus_scene.specs.Scene.{Scene}
 use Rattle.chorus_net.specs.Sites.{IsScheduled, net}
@@ -29,10 +29,11 @@ use Rattle.chorus_explore.specs.declared.race_sites.Progress.{Progress}
 use Rattle.chorus_explore.specs.declared.race_sites.Stage.{Stage}
 use Rattle.chorus_explore.specs.Tellings.{answered_line, settles_in}
 use Rattle.chorus_explore.proofs.Settling.{settles-of-reply}
-use Rattle.chorus_explore.specs.Stages.{AreAt, IsNext, IsPlaceFor, IsReached, MayWear, moves_of, position}
+use Rattle.chorus_explore.specs.Stages.{AreAt, IsNext, IsPlaceFor, IsReached, MayWear, may_go, moves_of, position}
 use Rattle.chorus_explore.proofs.Entering.{wears-behind}
 use Rattle.chorus_explore.proofs.Keeping.{script-keeps}
-use Rattle.chorus_explore.proofs.Moving.{Goes, goes-by, layout-at, next-may, performed, some-same, within}
+use Rattle.chorus_explore.proofs.Moving.{Goes, goes-by, layout-at, order-next, performed, some-same, within}
+use Rattle.chorus_explore.proofs.Staging.{orders-long}
 use Rattle.chorus_explore.proofs.Racing.{entry-at, own-entry}
 
 -- an entry behind those that were there
@@ -111,15 +112,17 @@ next-few c s i d old h next keeps found =
     let same : old ≡ g.at.p = some-same old g.at.p (sym found ∙ g.at.is_p) in
     let few = (script-keeps c keeps i g.at.script g.at.is_script).few in
     let most = g.at.is.few in
+    let long = orders-long g.at.script.waits 0 g.at.script.commands in
     let n = ap (λ (q : Progress). q.next) same in
-    omega (arith, n, most, few)
+    omega (arith, n, most, long, few)
 
 -- a clock that the command wears
-pub wears-next : (c : Scene) (s : Stage) (i : ℕ) (d : Command) (k clock : ℕ) → IsReached c s → IsNext c (moves_of s) i d → k ≡ i → compared_by (Act (k + 1) d) (net s.sites) ≡ Some clock → CLOCK_LIMIT ≤ clock
+pub wears-next : (c : Scene) (s : Stage) (i : ℕ) (d : Command) (k clock : ℕ) → IsReached c s → IsNext c (moves_of s) i d → may_go c (Go i) (moves_of s) ≡ true → k ≡ i → compared_by (Act (k + 1) d) (net s.sites) ≡ Some clock → CLOCK_LIMIT ≤ clock
     → MayWear c clock
-wears-next c s i d k clock h next same compared worn =
+wears-next c s i d k clock h next may same compared worn =
+    let o = order-next c (moves_of s) i d next in
     let after : k + 1 ≡ suc i = omega (arith, same) in
-    wears-behind c s (Go i) (Act (suc i) d) clock h (next-may c s h i d next) (ap (option_map (λ (x : Command). Act (suc i) x)) next)
+    wears-behind c s (Go i) (Act (suc i) d) clock h may (ap (option_map (λ (x : Order). Act (suc i) x.command)) o.1.0 ∙ ap (λ x. Some (Act (suc i) x)) o.1.1)
     (sym (ap (λ (m : ℕ). compared_by (Act m d) (net s.sites)) after) ∙ compared) worn
 
 -- the entry that answers it, as the seat is counted

@@ -3,9 +3,9 @@
 use Rattle.std.proofs.Common.{ℕ, ◌≡◌, ◌⊎◌, List, Option, Ok, inl, inr, refl, sym, subst}
 use Rattle.chorus_io.specs.Count.{Rose}
 use Rattle.chorus_ui.specs.declared.layout.Layout.{Layout}
-use Rattle.chorus_report.specs.Ending.{EndsReadingNoWait}
+use Rattle.chorus_report.specs.Ending.{EndsReading}
 use Rattle.chorus_report.specs.Output.{EndsUnread, GivesUp, Writes}
-use Rattle.chorus_report.specs.Reading.{IsGivenNoWait}
+use Rattle.chorus_report.specs.Reading.{IsGiven}
 use Rattle.chorus_scene.specs.Scene.{Scene}
 use Rattle.chorus_show.specs.declared.status.Status.{Status}
 use Rattle.chorus_show.specs.declared.status.Status.TheVariants as statuses
@@ -14,12 +14,12 @@ use Rattle.chorus_explore.specs.Explored.{IsExploration}
 use Rattle.chorus_explore.specs.Stages.{MayWear}
 use Rattle.chorus_explore.proofs.Entering.{wears-late}
 
-module _ {S K : Type 0} (l : Layout) (most : ℕ) (left : S → Option (List ℕ)) (faults : S → ℕ) (reliable : S → Type 0) (from rest : S) (held : K → Option (List ℕ)) (failures : K → ℕ) where
+module _ {S K : Type 0} (l : Layout) (most first : ℕ) (left : S → Option (List ℕ)) (faults : S → ℕ) (reliable : S → Type 0) (from rest : S) (held : K → Option (List ℕ)) (failures : K → ℕ) where
   abbrev pub Reads : Status → Type 0
-  Reads status = EndsReadingNoWait l status left faults reliable from rest
+  Reads status = EndsReading l status left faults reliable from rest
 
   abbrev pub EndsSo : K → K → Status → Type 0
-  EndsSo old new status = EndsAsExplore l most status left faults reliable from rest held failures old new
+  EndsSo old new status = EndsAsExplore l most first status left faults reliable from rest held failures old new
 
   -- before anything was gone over
   pub gave-up : (k : K) (status : Status) → GivesUp status → Reads status → EndsSo k k status
@@ -31,7 +31,7 @@ module _ {S K : Type 0} (l : Layout) (most : ℕ) (left : S → Option (List ℕ
   gave-up k statuses.WriteFault h reads = absurd h
   gave-up k (statuses.Worn clock) h reads = absurd h
 
-  module _ (c : Scene) (given : IsGivenNoWait l (left from) (Ok c)) (reads : (status : Status) → EndsUnread status → Reads status) where
+  module _ (c : Scene) (given : IsGiven l (left from) (Ok c)) (reads : (status : Status) → EndsUnread status → Reads status) where
     -- for want of memory, or a clock
     pub wanted : (k : K) → EndsSo k k statuses.Memory
     wanted k = record { reads = reads statuses.Memory tt; explores = tt; write_fault = λ e. absurd (cc); unwritten = λ a b. refl }
@@ -45,7 +45,7 @@ module _ {S K : Type 0} (l : Layout) (most : ℕ) (left : S → Option (List ℕ
     }
 
     -- by writing the text
-    pub wrote : (old new : K) (status : Status) (text : List ℕ) → IsExploration c most text → (status ≡ statuses.Done) ⊎ (status ≡ statuses.WriteFault) → Writes status (held old) (held new) text
+    pub wrote : (old new : K) (status : Status) (text : List ℕ) → IsExploration c most first text → (status ≡ statuses.Done) ⊎ (status ≡ statuses.WriteFault) → Writes status (held old) (held new) text
         → (status ≡ statuses.WriteFault → Rose (failures old) (failures new)) → EndsSo old new status
     wrote old new status text is (inl done) writes fault =
         let at_done = subst (λ (s : Status). Writes s (held old) (held new) text) done writes in

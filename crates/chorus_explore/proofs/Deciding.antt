@@ -178,6 +178,6 @@ met-along c k ms holds whole = record {
 }
 
 pub replays-meet-claims : ReplaysMeetClaims
-replays-meet-claims c steps k status closed shape keeps holds ordered unworn =
-    let one = replays-are-whole c steps status closed shape keeps ordered unworn in
+replays-meet-claims c steps k status closed shape keeps holds played unworn =
+    let one = replays-are-whole c steps status closed shape keeps played unworn in
     (one.0, (one.1.0, one.1.1, met-along c k one.0 holds one.1.0))

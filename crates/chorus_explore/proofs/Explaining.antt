@@ -1,7 +1,6 @@
 -- What a search came to is what is promised of a race.
 use Rattle.std.proofs.Common.{ℕ, zero, suc, ◌≡◌, ◌≢◌, ◌<◌, ◌≤◌, List, [], ◌∷◌, length, map, reverse, get_or, ◌⊎◌, inl, inr, refl, sym, ◌∙◌, ap, subst, arith}
 use Rattle.std.specs.List.{All, AllPairs, Contains}
-use Rattle.std.proofs.lemmas.Bool.{cases_lt}
 use Rattle.std.proofs.lemmas.List.{length-map}
 use Rattle.std.proofs.lemmas.List.Elements.{All-map, All-contains, All-weaker}
 use Rattle.law_explore.specs.declared.moves.Move.{Move}
@@ -26,25 +25,6 @@ module _ (r : Race) (comes : List Move → List ℕ) where
       let n = length-map fs found_of in
       let m = length-map fs (λ (f : Finding). f.text.items) in
       once i j d.outcome lt (omega (arith, within, n, m)) (sym (outcome-at fs i d) ∙ e ∙ outcome-at fs j d)
-
-  -- no whole history is missing that has fewer moves than the bound, which none of these goes beyond
-  module _ (bound : ℕ) (hs : List (List Move)) (bounded : (h : List Move) → IsWhole r h → length h < bound → Contains hs h) (within : All (λ (h : List Move). length h ≤ bound) hs) where
-    shortest-is : (g : Finding) → Contains hs (reverse g.moves.items) → All (λ (h : List Move). comes h ≡ g.text.items → length (reverse g.moves.items) ≤ length h) hs
-        → (ms : List Move) → IsWhole r ms → comes ms ≡ g.text.items → length (reverse g.moves.items) ≤ length ms
-    shortest-is g among first ms whole e = by (cases_lt (length ms) (length (reverse g.moves.items)))
-      where
-        by : (length ms < length (reverse g.moves.items)) ⊎ (length (reverse g.moves.items) ≤ length ms) → length (reverse g.moves.items) ≤ length ms
-        by (inl less) =
-            let le = All-contains (λ (h : List Move). length h ≤ bound) hs (reverse g.moves.items) within among in
-            All-contains (λ (h : List Move). comes h ≡ g.text.items → length (reverse g.moves.items) ≤ length h) hs ms first
-            (bounded ms whole (omega (arith, less, le))) e
-        by (inr le) = le
-
-    pub shows-shortest : (fs : List Finding) → AreFindings comes hs fs
-        → All (λ (z : Found (List ℕ)). (ms : List Move) → IsWhole r ms → comes ms ≡ z.outcome → length z.shows ≤ length ms) (map found_of fs)
-    shows-shortest fs f =
-        All-map (λ (z : Found (List ℕ)). (ms : List Move) → IsWhole r ms → comes ms ≡ z.outcome → length z.shows ≤ length ms) found_of fs
-        (λ i d lt. shortest-is (get_or fs i d) (f.shown i d lt).0 (f.first i d lt))
 
   -- each outcome has a history that shows it, one of these, and stands once
   pub explains-some : (hs : List (List Move)) (fs : List Finding) → All (IsWhole r) hs → AreOnce hs → AreFindings comes hs fs → ExploresSome r comes hs (map found_of fs)

@@ -23,4 +23,6 @@ pub mod Deciding
 pub mod Failing
 pub mod DrawnHistories
 pub mod DrawnClaims
+pub mod HistoriesTold
+pub mod ToldBeside
 pub mod AlikeSites

@@ -2,7 +2,7 @@
 -- c is a scenario, ms are moves, i is the place of a script, k a seat, n a network, p the number of a place, d a command.
 use Rattle.std.proofs.Common.{ℕ, suc, ◌≡◌, ◌==◌, Bool, true, false, cond, List, [], ◌∷◌, ◌++◌, length, map, reverse, Option, Some, None, is_some, slice_get, refl, sym, ◌∙◌, ap, ap₂, subst, arith, append_assoc}
 use Rattle.std.specs.Option.{option_map}
-use Rattle.std.proofs.lemmas.Bool.{false≢true, eqb-true}
+use Rattle.std.proofs.lemmas.Bool.{false≢true, and_parts, eqb-true}
 use Rattle.std.proofs.lemmas.List.{map-append, reverse-append, reverse-reverse, length-map}
 use Rattle.std.proofs.lemmas.Option.{slice_get-map}
 use Rattle.chorus_ui.specs.declared.layout.Layout.{Layout}
@@ -29,9 +29,9 @@ use Rattle.law_network.proofs.Places.PlacesStay.{stands_in, place-same}
 use Rattle.law_network.proofs.Standing.Turning.{stands-there, actor-some}
 use Rattle.law_explore.specs.declared.moves.Move.{Move}
 use Rattle.law_explore.specs.Search.{IsHistory}
-use Rattle.law_explore.specs.Races.{Position, event_of, position_after, is_ready_by, seat_0, may_come, replaying, IsRace}
+use Rattle.law_explore.specs.Races.{Position, event_of, is_now, position_after, is_ready_by, seat_0, may_come, replaying, IsRace}
 use Rattle.law_explore.proofs.Races.{same-actors, same-layout}
-use Rattle.law_replay.specs.Shown.{race_of}
+use Rattle.law_replay.specs.Shown.{orders_of, race_of}
 use Rattle.chorus_scene.specs.Scene.{Scene, Script}
 use Rattle.chorus_report.specs.Setup.{setup_commands}
 use Rattle.chorus_net.specs.Sites.{IsScheduled}
@@ -75,8 +75,11 @@ module _ (c : Scene) where
     pub ready : is_ready_by (Some event) (position c ms).net ≡ true
     pub after : position c (m ∷ ms) ≡ position_after (Some event) m (position c ms)
 
+  ready-of : (m : Move) (ms : List Move) → may_come (race_of c).net.layout m (position c ms) ≡ true → is_ready_by (event_of (race_of c).net.layout seat_0 m (position c ms).left) (position c ms).net ≡ true
+  ready-of m ms h = (and_parts (is_ready_by (event_of (race_of c).net.layout seat_0 m (position c ms).left) (position c ms).net) (is_now m (position c ms).left (position c ms).net) h).0
+
   pub comes : (m : Move) (ms : List Move) → may_come (race_of c).net.layout m (position c ms) ≡ true → Comes m ms
-  comes m ms h = by (event_of (race_of c).net.layout seat_0 m (position c ms).left) refl h
+  comes m ms h = by (event_of (race_of c).net.layout seat_0 m (position c ms).left) refl (ready-of m ms h)
     where
       by : (o : Option Event) → event_of (race_of c).net.layout seat_0 m (position c ms).left ≡ o → is_ready_by o (position c ms).net ≡ true → Comes m ms
       by None e k = absurd (false≢true k)
@@ -187,5 +190,5 @@ is-race c =
     let mapped = length-map (schedule l es).callers actor_in in
     let all = ap length (came c) in
     let actors = length-map c.scripts (λ (script : Script). script.actor) in
-    let scripts = length-map c.scripts (λ (script : Script). script.commands) in
+    let scripts = length-map c.scripts orders_of in
     record { order = packets-ordered l es; seats = omega (arith, callers, mapped, all, actors, scripts) }

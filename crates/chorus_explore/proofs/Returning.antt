@@ -1,317 +1,232 @@
 -- Each replay of a scenario closes what a whole history of its race comes to: what it delivers in vain is left out, and all else are moves.
--- c is a scenario, es and fs are events, ts and us tasks, ms are moves, all with the latest first; i is the place of a script, k a seat, d
--- a command.
-use Rattle.std.proofs.Common.{ℕ, zero, suc, ◌≡◌, ◌+◌, ◌≤◌, ◌==◌, nat_le, nat_lt, Bool, true, false, ◌&&◌, not, cond, List, [], ◌∷◌, ◌++◌, length, map, drop, reverse, count_by, Option, Some, None, is_some, slice_get, option_to_list, refl, sym, ◌∙◌, ap, ap₂, subst, arith, append_assoc}
+-- c is a scenario, s and t say how far a replay has come, es and fs are events, ts tasks, ms are moves, all with the latest first; i is the
+-- place of a script, k its seat, d a command, n a network.
+use Rattle.std.proofs.Common.{ℕ, zero, suc, ◌≡◌, ◌≤◌, ◌+◌, ◌==◌, Bool, true, false, ◌&&◌, not, cond, List, [], ◌∷◌, ◌++◌, length, map, reverse, ◌⊎◌, inl, inr, Option, Some, None, is_some, slice_get, refl, sym, ◌∙◌, ap, subst, arith}
 use Rattle.std.specs.List.{All, Contains}
 use Rattle.std.specs.Option.{option_map}
-use Rattle.std.proofs.lemmas.Bool.{and_parts, and_from, eq-eqb, false≢true, leb-true}
-use Rattle.std.proofs.lemmas.List.{append-nil, length-append, length-reverse, map-append, reverse-append, reverse-reverse, nil_from_length}
-use Rattle.std.proofs.lemmas.List.Elements.{All-nil, All-cons, All-head, All-tail, All-append, All-weaker}
-use Rattle.std.proofs.lemmas.Option.{slice_get-map}
+use Rattle.std.proofs.lemmas.Bool.{and_parts, and_from, false≢true}
+use Rattle.std.proofs.lemmas.List.{append-nil}
+use Rattle.std.proofs.lemmas.List.Elements.{All-head, All-tail}
 use Rattle.chorus_ui.specs.declared.layout.Layout.{Layout}
 use Rattle.chorus_ui.specs.Layout.{IsLayout, has_place}
 use Rattle.chorus_entry.specs.declared.command.Command.{Command}
-use Rattle.law_network.specs.Network.{NetState, Event, Enter, Act, Deliver, See, happened, schedule, rounds, one_if}
+use Rattle.law_network.specs.Network.{NetState, Event, Act, Deliver, happened, schedule, rounds, one_if}
 use Rattle.law_network.specs.Packets.{first_on}
-use Rattle.law_network.specs.Schedules.{may_happen, may_be, command_in, commands_of}
-use Rattle.law_network.specs.Tasks.{Task, Do, Drain, CarryOut}
-use Rattle.law_network.proofs.Draining.Drains.{carried-commands, idle-event}
+use Rattle.law_network.specs.Schedules.{may_happen, may_be}
+use Rattle.law_network.specs.Tasks.{Task, Do, Drain, CarryOut, MayAll, AreDeliveries}
+use Rattle.law_network.proofs.Draining.Drains.{carried-out-once, idle-event}
 use Rattle.law_network.proofs.Draining.Emptied.{drains-leave-nothing}
-use Rattle.law_network.proofs.Merge.Parts.{All-reverse}
+use Rattle.law_network.proofs.Draining.Ending.{tasks-carried-out}
 use Rattle.law_explore.specs.declared.moves.Move.{Move}
 use Rattle.law_explore.specs.declared.moves.Move.TheVariants.{Go, Carry}
 use Rattle.law_explore.specs.Neighbours.{is_ready}
 use Rattle.law_explore.specs.Positions.{next_behind}
 use Rattle.law_explore.specs.Search.{IsHistory}
-use Rattle.law_explore.specs.Races.{are_linked, event_of, is_ready_by, may_come, next_of, position_after, replaying, seat_0, IsWhole}
+use Rattle.law_explore.specs.Races.{Order, Position, are_linked, event_of, is_now, is_ready_by, may_come, next_of, position_after, replaying, seat_0, IsWhole}
 use Rattle.law_explore.specs.Replays.{events_of}
 use Rattle.law_explore.proofs.Exploring.{lists-next}
 use Rattle.law_explore.proofs.Searching.{here}
-use Rattle.law_replay.specs.Shown.{race_of}
-use Rattle.chorus_scene.specs.Grammar.{is_step, script_at}
-use Rattle.chorus_scene.specs.Limits.{Keeps, step_keeps, schedule_keeps}
+use Rattle.law_replay.specs.Shown.{race_of, step_of, IsPlayed}
+use Rattle.law_replay.proofs.Shown.{not-worn, over-unworn}
+use Rattle.law_replay.proofs.Steps.{command-is, done_by_moves, follows, go-next, in_steps, same-may}
+use Rattle.chorus_scene.specs.Grammar.{script_at}
+use Rattle.chorus_scene.specs.Limits.{Keeps}
 use Rattle.chorus_scene.specs.Scene.{Scene, Script}
-use Rattle.chorus_scene.specs.declared.scenario.Step as step
 use Rattle.chorus_scene.specs.declared.scenario.Step.TheVariants as steps
 use Rattle.chorus_show.specs.declared.status.Status.{Status}
-use Rattle.chorus_show.specs.declared.status.Status.TheVariants as statuses
 use Rattle.chorus_net.specs.declared.closed.Closed.{Closed}
 use Rattle.chorus_net.specs.Closing.{IsClosed}
-use Rattle.chorus_report.specs.Headline.{commands_by}
+use Rattle.chorus_report.specs.Awaiting.{all_scripts}
 use Rattle.chorus_replay.specs.Laws.{worn_clock}
-use Rattle.chorus_replay.specs.Order.{in_schedule, left_from, step_tasks, tasks, then_drain}
-use Rattle.chorus_replay.specs.Ordered.{CarryAsFar, IsOrdered}
-use Rattle.chorus_replay.proofs.Given.{commands-given, commands-none}
+use Rattle.chorus_replay.specs.Waiting.{Phase, InSchedule, InRound, BehindRound, Standing, Follows, Begins, Then, ComesIn, GoesOn, Does, Tells, IsScript, IsOver, may_go_on, next_command, one_more, opened}
+use Rattle.chorus_replay.proofs.Determined.{either, ends-there}
 use Rattle.chorus_replay.proofs.Plays.{deliveries}
+use Rattle.chorus_replay.proofs.Standings.{PhaseFits, core-may, good, script-at}
 use Rattle.chorus_explore.specs.Shown.{ReplaysAreWhole}
-use Rattle.chorus_explore.specs.Stages.{position}
-use Rattle.chorus_explore.proofs.Happening.{events, left-none, left-of, net-is}
-use Rattle.chorus_explore.proofs.Racing.{base, caller-at, first-at, map-reverse, position-layout, race-layout}
-
--- Tasks that are done where the race has begun: commands of scripts, and what seat 0 delivers.
-
-abbrev IsRacing : Event → Type 0
-IsRacing (Enter actor last) = ⊥
-IsRacing (Act k d) = 1 ≤ k
-IsRacing (Deliver k a b) = k ≡ 0
-IsRacing (See seat clock) = ⊥
-
-abbrev IsTurn : Task → Type 0
-IsTurn (Do e) = IsRacing e
-IsTurn (Drain k) = k ≡ 0
-
--- the events of such tasks, and those of the tasks before
-record Splits (l : Layout) (us : List Task) (es : List Event) : Type 0 where
-  pub newer : List Event
-  pub older : List Event
-  pub is : es ≡ newer ++ older
-  pub racing : All IsRacing newer
-  pub carried : CarryOut l us older
-
-splits : (l : Layout) (ts us : List Task) (es : List Event) → All IsTurn ts → CarryOut l (ts ++ us) es → Splits l us es
-splits l [] us es turns h = record { newer = []; older = es; is = refl; racing = All-nil IsRacing; carried = h }
-splits l (Do e ∷ ts) us es turns h =
-    let rest = splits l ts us h.0 (All-tail IsTurn (Do e) ts turns) h.1.1 in
-    record {
-      newer = e ∷ rest.newer;
-      older = rest.older;
-      is = h.1.0 ∙ ap (λ xs. e ∷ xs) rest.is;
-      racing = All-cons IsRacing e rest.newer (All-head IsTurn (Do e) ts turns) rest.racing;
-      carried = rest.carried;
-    }
-splits l (Drain k ∷ ts) us es turns h =
-    let rest = splits l ts us h.0 (All-tail IsTurn (Drain k) ts turns) h.1.1 in
-    let drain = h.1.0 in
-    let by-first : k ≡ 0 = All-head IsTurn (Drain k) ts turns in
-    record {
-      newer = rounds l k drain.count ++ rest.newer;
-      older = rest.older;
-      is = drain.rounds ∙ ap (λ xs. rounds l k drain.count ++ xs) rest.is ∙ sym (append_assoc (rounds l k drain.count) rest.newer rest.older);
-      racing = All-append IsRacing (rounds l k drain.count) rest.newer
-          (All-weaker (λ (e : Event). (a : ℕ) × ((b : ℕ) × (e ≡ Deliver k a b))) IsRacing (λ e is. subst IsRacing (sym is.1.1) by-first) (rounds l k drain.count) (deliveries l k drain.count))
-          rest.racing;
-      carried = rest.carried;
-    }
-
-carried-is : (l : Layout) (fs es : List Event) → CarryOut l (map Do fs) es → es ≡ fs
-carried-is l [] es h = h
-carried-is l (f ∷ fs) es h = h.1.0 ∙ ap (λ xs. f ∷ xs) (carried-is l fs h.0 h.1.1)
-
--- Such are the tasks of a schedule, and of what it leaves.
-
-module _ (l : Layout) (n : ℕ) (scripts : List Script) where
-  one-step : (before : List step.Step) (s : step.Step) → step_keeps l n scripts before s ≡ true → All IsTurn (step_tasks scripts before s)
-  one-step before (steps.Step k) h = by (slice_get (script_at k scripts).commands (count_by (is_step k) before))
-    where
-      from-one : 1 ≤ k
-      from-one =
-          let outer = and_parts (nat_le 1 k && nat_le k (length scripts)) (nat_lt (count_by (is_step k) before) (length (script_at k scripts).commands)) h in
-          leb-true 1 k (and_parts (nat_le 1 k) (nat_le k (length scripts)) outer.0).0
-
-      by : (o : Option Command) → All IsTurn (option_to_list (option_map (λ (command : Command). Do (Act k command)) o))
-      by None = All-nil IsTurn
-      by (Some d) = All-cons IsTurn (Do (Act k d)) [] from-one (All-nil IsTurn)
-  one-step before (steps.Deliver from to) h = All-cons IsTurn (Do (Deliver 0 from to)) [] refl (All-nil IsTurn)
-  one-step before steps.Drain h = All-cons IsTurn (Drain 0) [] refl (All-nil IsTurn)
-
-  in-steps : (before rest : List step.Step) → schedule_keeps l n scripts before rest ≡ true → All IsTurn (in_schedule scripts before rest)
-  in-steps before [] h = All-nil IsTurn
-  in-steps before (s ∷ rest) h =
-      let parts = and_parts (step_keeps l n scripts before s) (schedule_keeps l n scripts (before ++ s ∷ []) rest) h in
-      All-append IsTurn (step_tasks scripts before s) (in_schedule scripts (before ++ s ∷ []) rest) (one-step before s parts.0) (in-steps (before ++ s ∷ []) rest parts.1)
-
-then-drains : (k : ℕ) → 1 ≤ k → (cs : List Command) → All IsTurn (then_drain k cs)
-then-drains k le [] = All-nil IsTurn
-then-drains k le (d ∷ cs) =
-    All-cons IsTurn (Do (Act k d)) (Drain 0 ∷ then_drain k cs) le (All-cons IsTurn (Drain 0) (then_drain k cs) refl (then-drains k le cs))
-
-in-left : (schedule : List step.Step) (k : ℕ) → 1 ≤ k → (scripts : List Script) → All IsTurn (left_from schedule k scripts)
-in-left schedule k le [] = All-nil IsTurn
-in-left schedule k le (s ∷ scripts) =
-    let cs = drop (count_by (is_step k) schedule) s.commands in
-    All-append IsTurn (then_drain k cs) (left_from schedule (k + 1) scripts) (then-drains k le cs) (in-left schedule (k + 1) (omega (arith, le)) scripts)
-
--- Lists.
-
-none-of : {X : Type 0} (xs ys : List X) → xs ++ ys ≡ [] → ys ≡ []
-none-of [] ys e = e
-none-of (x ∷ xs) ys e = absurd (cc)
-
-split-same : {X : Type 0} (xs ys us vs : List X) → xs ++ ys ≡ us ++ vs → length xs ≡ length us → ys ≡ vs
-split-same [] ys [] vs e n = e
-split-same [] ys (u ∷ us) vs e n = absurd (omega (arith, n))
-split-same (x ∷ xs) ys [] vs e n = absurd (omega (arith, n))
-split-same (x ∷ xs) ys (u ∷ us) vs e n = split-same xs ys us vs (let tail : xs ++ ys ≡ us ++ vs = cc in tail) (omega (arith, n))
-
--- an event gives one command more, or none
-command-more : (k : ℕ) (e : Event) (cs : List Command) → (more : List Command) × (command_in k e cs ≡ more ++ cs)
-command-more k (Enter actor last) cs = ([], refl)
-command-more k (Deliver j a b) cs = ([], refl)
-command-more k (See seat clock) cs = ([], refl)
-command-more k (Act j d) cs = by (j == k)
-  where
-    by : (q : Bool) → (more : List Command) × (cond q (d ∷ cs) cs ≡ more ++ cs)
-    by true = (d ∷ [], refl)
-    by false = ([], refl)
+use Rattle.chorus_explore.specs.Stages.{goes_on, may_go, position}
+use Rattle.chorus_explore.proofs.Happening.{base-may, carried-all, events, history-may, left-none, net-is, script-may}
+use Rattle.chorus_explore.proofs.Moving.{some-same}
+use Rattle.chorus_explore.proofs.Racing.{base, first-at, map-reverse, position-layout, race-layout}
 
 -- a delivery that finds nothing counts for nothing
 never : (q : Bool) → one_if (q && false) ≡ 0
 never true = refl
 never false = refl
 
--- Events behind those where the race begins.
+module _ (c : Scene) (shape : IsLayout c.layout) where
+  abbrev l : Layout
+  l = c.layout
 
-module _ (c : Scene) where
-  abbrev at : List Event → NetState
-  at fs = schedule c.layout (fs ++ reverse (base c))
-
-  abbrev given-by : ℕ → List Event → List Command
-  given-by i fs = commands_of (suc i) (fs ++ reverse (base c))
-
-  -- a history that goes on from these moves comes to the same, and its events give the same
-  pub record Reached (from : List Move) (fs : List Event) : Type 0 where
+  -- a history that goes on from these moves leads to the network, and did as many commands of each script
+  pub record Leads (from : List Move) (done : List ℕ) (n : NetState) : Type 0 where
     pub moves : List Move
     pub more : List Move
-    pub goes_on : moves ≡ more ++ from
+    pub goes : moves ≡ more ++ from
     pub history : IsHistory (replaying (race_of c)) moves
-    pub net : (position c moves).net ≡ at fs
-    pub gave : (i : ℕ) → commands_of (suc i) (events c moves) ≡ given-by i fs
-
-  -- the commands that the events give are the first ones of the scripts
-  record Gives (fs : List Event) : Type 0 where
-    pub some : (i : ℕ) (script : Script) → slice_get c.scripts i ≡ Some script → (later : List Command) × (script.commands ≡ reverse (given-by i fs) ++ later)
-    pub none : (i : ℕ) → slice_get c.scripts i ≡ None → given-by i fs ≡ []
-
-  gives-less : (e : Event) (fs : List Event) → Gives (e ∷ fs) → Gives fs
-  gives-less e fs g = record {
-    some = λ i script there.
-        (let was = g.some i script there in
-        let cs = given-by i fs in
-        let more = command-more (suc i) e cs in (
-          reverse more.0 ++ was.0,
-          was.1 ∙ ap (λ xs. reverse xs ++ was.0) more.1 ∙ ap (λ xs. xs ++ was.0) (reverse-append more.0 cs) ∙ append_assoc (reverse cs) (reverse more.0) was.0,
-        ));
-    none = λ i there. (let more = command-more (suc i) e (given-by i fs) in none-of more.0 (given-by i fs) (sym more.1 ∙ g.none i there));
-  }
-
-  own-given : (i : ℕ) (d : Command) (fs : List Event) → given-by i (Act (suc i) d ∷ fs) ≡ d ∷ given-by i fs
-  own-given i d fs = ap (λ (q : Bool). cond q (d ∷ given-by i fs) (given-by i fs)) (eq-eqb (suc i) (suc i) refl)
+    pub done_is : done ≡ done_by_moves c moves
+    pub net : (position c moves).net ≡ n
 
   -- A delivery is a move where it finds a packet.
 
-  delivered-one : (from : List Move) (a b : ℕ) (fs : List Event) → may_happen (Deliver 0 a b) (at fs) ≡ true → Reached from fs → (q : Bool) → is_some (first_on a b (at fs).packets) ≡ q → Reached from (Deliver 0 a b ∷ fs)
-  delivered-one from a b fs may w false e = record {
+  delivered-one : (from : List Move) (done : List ℕ) (a b : ℕ) (n : NetState) → may_happen (Deliver 0 a b) n ≡ true → Leads from done n → (q : Bool) → is_some (first_on a b n.packets) ≡ q
+      → Leads from done (happened (Deliver 0 a b) n)
+  delivered-one from done a b n may w false e = record {
     moves = w.moves;
     more = w.more;
-    goes_on = w.goes_on;
+    goes = w.goes;
     history = w.history;
-    net = w.net
-        ∙ sym (idle-event (Deliver 0 a b) (at fs) (ap (λ (q : Bool). one_if (is_some (slice_get (at fs).callers 0) && q)) e ∙ never (is_some (slice_get (at fs).callers 0))));
-    gave = w.gave;
+    done_is = w.done_is;
+    net = w.net ∙ sym (idle-event (Deliver 0 a b) n (ap (λ (q : Bool). one_if (is_some (slice_get n.callers 0) && q)) e ∙ never (is_some (slice_get n.callers 0))));
   }
-  delivered-one from a b fs may w true e =
-      let n = at fs in
+  delivered-one from done a b n may w true e =
       let s = position c w.moves in
-      let l = (race_of c).net.layout in
+      let r = (race_of c).net.layout in
       let some = is_some (slice_get n.callers 0) in
       let three = and_parts (some && has_place n.layout a && has_place n.layout b) (not (a == b)) may in
       let two = and_parts (some && has_place n.layout a) (has_place n.layout b) three.0 in
       let one = and_parts some (has_place n.layout a) two.0 in
-      let layout : (at fs).layout ≡ (race_of c).net.layout = ap (λ (z : NetState). z.layout) (sym w.net) ∙ position-layout c w.moves w.history ∙ sym (race-layout c) in
+      let layout : n.layout ≡ (race_of c).net.layout = ap (λ (z : NetState). z.layout) (sym w.net) ∙ position-layout c w.moves w.history ∙ sym (race-layout c) in
       let has-a = ap (λ (x : Layout). has_place x a) (sym layout) ∙ one.1 in
       let has-b = ap (λ (x : Layout). has_place x b) (sym layout) ∙ two.1 in
-      let linked : are_linked (race_of c).net.layout a b ≡ true = and_from (has_place l a && has_place l b) (not (a == b)) (and_from (has_place l a) (has_place l b) has-a has-b) three.1 in
+      let linked : are_linked (race_of c).net.layout a b ≡ true = and_from (has_place r a && has_place r b) (not (a == b)) (and_from (has_place r a) (has_place r b) has-a has-b) three.1 in
       let event : event_of (race_of c).net.layout seat_0 (Carry a b) (position c w.moves).left ≡ Some (Deliver 0 a b) = ap (λ (q : Bool). cond q (Some (Deliver 0 a b)) None) linked in
       let ready : is_ready (Deliver 0 a b) (position c w.moves).net ≡ true =
       and_from (is_some (slice_get s.net.callers 0)) (is_some (first_on a b s.net.packets)) (first-at c w.moves w.history) (ap (λ (z : NetState). is_some (first_on a b z.packets)) w.net ∙ e) in
       record {
         moves = Carry a b ∷ w.moves;
         more = Carry a b ∷ w.more;
-        goes_on = ap (λ ms. Carry a b ∷ ms) w.goes_on;
-        history = (ap (λ o. is_ready_by o s.net) event ∙ ready, w.history);
+        goes = ap (λ ms. Carry a b ∷ ms) w.goes;
+        history = (ap (λ o. is_ready_by o s.net && true) event ∙ ap (λ q. q && true) ready, w.history);
+        done_is = w.done_is;
         net = ap (λ o. (position_after o (Carry a b) s).net) event ∙ ap (happened (Deliver 0 a b)) w.net;
-        gave = λ i. ap (λ o. commands_of (suc i) ((option_to_list o ++ events_of (race_of c) w.moves) ++ reverse (base c))) event ∙ w.gave i;
       }
 
-  -- A command is the next one of its script.
+  all-delivered : (from : List Move) (done : List ℕ) (es older : List Event) → AreDeliveries 0 es → may_be l (es ++ older) ≡ true → Leads from done (schedule l older) → Leads from done (schedule l (es ++ older))
+  all-delivered from done [] older are may w = w
+  all-delivered from done (e ∷ es) older are may w =
+      let IsDelivery : Event → Type 0 = λ (f : Event). (a : ℕ) × ((b : ℕ) × (f ≡ Deliver 0 a b)) in
+      let head = All-head IsDelivery e es are in
+      let two = and_parts (may_happen e (schedule c.layout (es ++ older))) (may_be c.layout (es ++ older)) may in
+      let rest = all-delivered from done es older (All-tail IsDelivery e es are) two.1 w in
+      let n = schedule c.layout (es ++ older) in
+      let one : may_happen (Deliver 0 head.0 head.1.0) n ≡ true = ap (λ f. may_happen f n) (sym head.1.1) ∙ two.0 in
+      subst (λ f. Leads from done (happened f (schedule c.layout (es ++ older)))) (sym head.1.1)
+      (delivered-one from done head.0 head.1.0 n one rest (is_some (first_on head.0 head.1.0 n.packets)) refl)
 
-  acted-one : (from : List Move) (i : ℕ) (d : Command) (fs : List Event) → Gives (Act (suc i) d ∷ fs) → Reached from fs → (o : Option Script) → slice_get c.scripts i ≡ o → Reached from (Act (suc i) d ∷ fs)
-  acted-one from i d fs gives w None there = absurd (let e = sym (own-given i d fs) ∙ gives.none i there in cc)
-  acted-one from i d fs gives w (Some script) there =
-      let s = position c w.moves in
-      let cs = given-by i fs in
-      let given = gives.some i script there in
-      let left = left-of c i script there w.moves w.history in
-      let whole : left.given ++ left.left ≡ reverse (given-by i fs) ++ d ∷ given.0 =
-      sym left.whole ∙ given.1 ∙ ap (λ xs. reverse xs ++ given.0) (own-given i d fs) ∙ ap (λ xs. xs ++ given.0) (reverse-append (d ∷ []) cs) ∙ append_assoc (reverse cs) (d ∷ []) given.0 in
-      let long : length left.given ≡ length (reverse (given-by i fs)) = sym left.gave ∙ ap length (w.gave i) ∙ sym (length-reverse cs) in
-      let is = split-same left.given left.left (reverse cs) (d ∷ given.0) whole long in
-      let next : next_of (slice_get (position c w.moves).left i) ≡ Some d = ap next_of left.is_left ∙ ap (λ xs. next_of (Some xs)) is in
-      let event : event_of (race_of c).net.layout seat_0 (Go i) (position c w.moves).left ≡ Some (Act (suc i) d) = ap (option_map (λ (x : Command). Act (suc i) x)) next in
-      let caller = caller-at c w.moves w.history i script there in
+  -- Tasks that are carried out lead where a history leads.
+
+  pub record Went (from : List Move) (ts : List Task) (done : List ℕ) : Type 0 where
+    pub events : List Event
+    pub carried : CarryOut c.layout ts events
+    pub may : may_be c.layout events ≡ true
+    pub leads : Leads from done (schedule c.layout events)
+
+  went-deliver : (from : List Move) (ts : List Task) (done : List ℕ) (a b : ℕ) → MayAll l (Do (Deliver 0 a b) ∷ ts) → Went from ts done → Went from (Do (Deliver 0 a b) ∷ ts) done
+  went-deliver from ts done a b all w =
+      let n = schedule c.layout w.events in
+      let may = all.0 w.events w.carried in
       record {
-        moves = Go i ∷ w.moves;
-        more = Go i ∷ w.more;
-        goes_on = ap (λ ms. Go i ∷ ms) w.goes_on;
-        history = (ap (λ o. is_ready_by o s.net) event ∙ ap (λ o. is_some o && true) caller.is, w.history);
-        net = ap (λ o. (position_after o (Go i) s).net) event ∙ ap (happened (Act (suc i) d)) w.net;
-        gave = λ j.
-            ap (λ o. commands_of (suc j) ((option_to_list o ++ events_of (race_of c) w.moves) ++ reverse (base c))) event ∙ ap (command_in (suc j) (Act (suc i) d)) (w.gave j);
+        events = Deliver 0 a b ∷ w.events;
+        carried = (w.events, (refl, w.carried));
+        may = and_from (may_happen (Deliver 0 a b) n) (may_be c.layout w.events) may w.may;
+        leads = delivered-one from done a b n may w.leads (is_some (first_on a b n.packets)) refl;
       }
 
-  one-more : (from : List Move) (e : Event) (fs : List Event) → may_happen e (at fs) ≡ true → IsRacing e → Gives (e ∷ fs) → Reached from fs → Reached from (e ∷ fs)
-  one-more from (Enter actor last) fs may racing gives w = absurd racing
-  one-more from (See seat clock) fs may racing gives w = absurd racing
-  one-more from (Act zero d) fs may racing gives w = absurd (omega (arith, racing))
-  one-more from (Act (suc i) d) fs may racing gives w = acted-one from i d fs gives w (slice_get c.scripts i) refl
-  one-more from (Deliver k a b) fs may racing gives w =
-      subst (λ (j : ℕ). Reached from (Deliver j a b ∷ fs)) (sym racing)
-      (delivered-one from a b fs (subst (λ (j : ℕ). may_happen (Deliver j a b) (at fs) ≡ true) racing may) w (is_some (first_on a b (at fs).packets)) refl)
+  went-drain : (from : List Move) (ts : List Task) (done : List ℕ) → MayAll l (Drain 0 ∷ ts) → Went from ts done → Went from (Drain 0 ∷ ts) done
+  went-drain from ts done all w =
+      let t = tasks-carried-out c.layout (Drain 0 ∷ ts) shape all in
+      let older = t.1.0.0 in
+      let d = t.1.0.1.0 in
+      let same : schedule c.layout w.events ≡ schedule c.layout older = carried-out-once c.layout ts w.events older w.carried t.1.0.1.1 in
+      let may : may_be c.layout (rounds c.layout 0 d.count ++ older) ≡ true = ap (may_be c.layout) (sym d.rounds) ∙ t.1.1 in
+      record {
+        events = t.0;
+        carried = t.1.0;
+        may = t.1.1;
+        leads = subst (λ es. Leads from done (schedule c.layout es)) (sym d.rounds)
+            (all-delivered from done (rounds c.layout 0 d.count) older (deliveries c.layout 0 d.count) may (subst (Leads from done) same w.leads));
+      }
 
-  reached : (from : List Move) (start fs : List Event) → Reached from start → may_be c.layout ((fs ++ start) ++ reverse (base c)) ≡ true → All IsRacing fs → Gives (fs ++ start) → Reached from (fs ++ start)
-  reached from start [] w may racing gives = w
-  reached from start (e ∷ fs) w may racing gives =
-      let two = and_parts (may_happen e (at (fs ++ start))) (may_be c.layout ((fs ++ start) ++ reverse (base c))) may in
-      one-more from e (fs ++ start) two.0 (All-head IsRacing e fs racing) gives (reached from start fs w two.1 (All-tail IsRacing e fs racing) (gives-less e (fs ++ start) gives))
+  went-act : (from : List Move) (ts : List Task) (done : List ℕ) (k : ℕ) (d : Command) → MayAll l (Do (Act k d) ∷ ts) → (w : Went from ts done) → IsScript c k → next_command c done k ≡ Some d
+      → may_go_on c done k (schedule l w.events) ≡ true → Went from (Do (Act k d) ∷ ts) (one_more k done)
+  went-act from ts done k d all w of next goes =
+      let a = script-at c k of in
+      let i = a.place in
+      let ms = w.leads.moves in
+      let p = position c w.leads.moves in
+      let may = all.0 w.events w.carried in
+      let now : may_go_on c (done_by_moves c w.leads.moves) k (position c w.leads.moves).net ≡ true = (λ j. may_go_on c (sym w.leads.done_is j) k (w.leads.net j)) ∙ goes in
+      let on : goes_on c w.leads.moves a.place ≡ true = sym (same-may c ms w.leads.history k i (script_at k c.scripts) a.is a.less a.found p.net) ∙ now in
+      let go = script-may c ms w.leads.history i on in
+      let o = go-next c i ms go in
+      let said = command-is c ms w.leads.history k i (script_at k c.scripts) a.is a.less a.found o.0 o.1 in
+      let command : o.0.command ≡ d = some-same o.0.command d (sym said ∙ ap (λ z. next_command c z k) (sym w.leads.done_is) ∙ next) in
+      let event : event_of (race_of c).net.layout seat_0 (Go a.place) (position c w.leads.moves).left ≡ Some (Act (suc a.place) o.0.command) = ap (option_map (λ (x : Order). Act (suc a.place) x.command)) o.1 in
+      let seat : k ≡ a.place + 1 = (let e = a.is in omega (arith, e)) in
+      record {
+        events = Act k d ∷ w.events;
+        carried = (w.events, (refl, w.carried));
+        may = and_from (may_happen (Act k d) (schedule c.layout w.events)) (may_be c.layout w.events) may w.may;
+        leads = record {
+          moves = Go a.place ∷ w.leads.moves;
+          more = Go a.place ∷ w.leads.more;
+          goes = ap (λ xs. Go a.place ∷ xs) w.leads.goes;
+          history = (go, w.leads.history);
+          done_is = λ j. one_more (seat j) (w.leads.done_is j);
+          net = ap (λ z. (position_after z (Go a.place) p).net) event ∙ (λ j. happened (Act (sym a.is j) (command j)) (w.leads.net j));
+        };
+      }
 
-  -- no event, and no move
-  none-reached : Reached [] []
-  none-reached = record { moves = []; more = []; goes_on = refl; history = tt; net = refl; gave = λ i. refl }
+  -- Step by step.
 
-  -- the events of a history lead where it leads
-  pub history-reached : (ms : List Move) → IsHistory (replaying (race_of c)) ms → Reached ms (events_of (race_of c) ms)
-  history-reached ms h = record { moves = ms; more = []; goes_on = refl; history = h; net = sym (net-is c ms); gave = λ i. refl }
+  moved : (from : List Move) (ts us : List Task) (done new : List ℕ) → us ≡ ts → new ≡ done → Went from ts done → Went from us new
+  moved from ts us done new e f w = subst (λ xs. Went from xs new) (sym e) (subst (λ xs. Went from ts xs) (sym f) w)
 
-  -- Where all commands were given and no packet is left, nothing may come.
+  -- a script goes on
+  goes-on : (from : List Move) (s t : Standing) (k : ℕ) (behind : List Task) (g : GoesOn c k behind s t) → MayAll l (Do (Act k g.command) ∷ s.tasks) → IsScript c k → Went from s.tasks s.done
+      → Went from (Do (Act k g.command) ∷ s.tasks) (one_more k s.done)
+  goes-on from s t k behind g all of w =
+      went-act from s.tasks s.done k g.command all w of g.is
+      (ap (may_go_on c s.done k) (carried-out-once c.layout s.tasks w.events g.may.events w.carried g.may.carried) ∙ g.may.is)
 
-  module _ (ms : List Move) (h : IsHistory (replaying (race_of c)) ms) (empty : (position c ms).net.packets ≡ [])
-      (all : (i : ℕ) (script : Script) → slice_get c.scripts i ≡ Some script → commands_of (suc i) (events c ms) ≡ reverse script.commands) where
-    left-nothing : (i : ℕ) (script : Script) → slice_get c.scripts i ≡ Some script → slice_get (position c ms).left i ≡ Some []
-    left-nothing i script there =
-        let left = left-of c i script there ms h in
-        let a = left.gave in
-        let b = ap length (all i script there) in
-        let e = length-reverse script.commands in
-        let f = ap length left.whole in
-        let g = length-append left.given left.left in
-        left.is_left ∙ ap (λ xs. Some xs) (nil_from_length left.left (omega (arith, a, b, e, f, g)))
+  comes : (from : List Move) (phase : Phase) (s t : Standing) → MayAll l t.tasks → PhaseFits c phase → ComesIn c phase s t → Went from s.tasks s.done → Went from t.tasks t.done
+  comes from (InSchedule []) s t all fits x w = moved from s.tasks t.tasks s.done t.done x.0.tasks x.0.done w
+  comes from (InSchedule (steps.Step k ∷ ahead)) s t all fits x w = by x.0
+    where
+      by : GoesOn c k [] s t ⊎ (Tells c k s false × Does [] s t) → Went from t.tasks t.done
+      by (inl g) =
+          moved from (Do (Act k g.command) ∷ s.tasks) t.tasks (one_more k s.done) t.done g.tasks g.done
+          (goes-on from s t k [] g (subst (MayAll c.layout) g.tasks all) fits.0 w)
+      by (inr d) = moved from s.tasks t.tasks s.done t.done d.1.tasks d.1.done w
+  comes from (InSchedule (steps.Deliver a b ∷ ahead)) s t all fits x w =
+      moved from (Do (Deliver 0 a b) ∷ s.tasks) t.tasks s.done t.done x.0.tasks x.0.done (went-deliver from s.tasks s.done a b (subst (MayAll c.layout) x.0.tasks all) w)
+  comes from (InSchedule (steps.Drain ∷ ahead)) s t all fits x w =
+      moved from (Drain 0 ∷ s.tasks) t.tasks s.done t.done x.0.tasks x.0.done (went-drain from s.tasks s.done (subst (MayAll c.layout) x.0.tasks all) w)
+  comes from (InRound []) s t all fits x w =
+      moved from (Drain 0 ∷ s.tasks) t.tasks s.done t.done x.0.tasks x.0.done (went-drain from s.tasks s.done (subst (MayAll c.layout) x.0.tasks all) w)
+  comes from (InRound (k ∷ ahead)) s t all fits (inl g) w =
+      let may = subst (MayAll c.layout) g.0.tasks all in
+      moved from (Drain 0 ∷ Do (Act k g.0.command) ∷ s.tasks) t.tasks (one_more k s.done) t.done g.0.tasks g.0.done
+      (went-drain from (Do (Act k g.0.command) ∷ s.tasks) (one_more k s.done) may (goes-on from s t k (Drain 0 ∷ []) g.0 may.1 fits.0 w))
+  comes from (InRound (k ∷ ahead)) s t all fits (inr d) w = moved from s.tasks t.tasks s.done t.done d.1.tasks d.1.done w
+  comes from BehindRound s t all fits x w = moved from s.tasks t.tasks s.done t.done x.1.tasks x.1.done w
 
+  -- Where no packet is left, and no script goes on, nothing may come.
+
+  module _ (ms : List Move) (h : IsHistory (replaying (race_of c)) ms) (empty : (position c ms).net.packets ≡ []) (stops : (i : ℕ) → goes_on c ms i ≡ false) where
     none-may : (m : Move) → may_come (race_of c).net.layout m (position c ms) ≡ true → ⊥
-    none-may (Go i) may = by (slice_get c.scripts i) refl
-      where
-        idle : (o : Option (List Command)) → slice_get (position c ms).left i ≡ o → next_of o ≡ None → ⊥
-        idle o is none =
-            false≢true (sym (ap (λ x. is_ready_by (option_map (λ (d : Command). Act (suc i) d) x) (position c ms).net) (ap next_of is ∙ none)) ∙ may)
-
-        by : (o : Option Script) → slice_get c.scripts i ≡ o → ⊥
-        by None there = idle None (left-none c i ms h there) refl
-        by (Some script) there = idle (Some []) (left-nothing i script there) refl
+    none-may (Go i) may =
+        let p = position c ms in
+        let both = and_parts (is_ready_by (event_of (race_of c).net.layout seat_0 (Go i) p.left) p.net) (is_now (Go i) p.left p.net) may in
+        let o = go-next c i ms may in
+        let on : goes_on c ms i ≡ true = ap (λ x. is_some x && is_now (Go i) (position c ms).left (position c ms).net) o.1 ∙ both.1 in
+        false≢true (sym (stops i) ∙ on)
     none-may (Carry a b) may = by (are_linked (race_of c).net.layout a b) refl
       where
         by : (q : Bool) → are_linked (race_of c).net.layout a b ≡ q → ⊥
-        by false e = false≢true (sym (ap (λ (x : Bool). is_ready_by (cond x (Some (Deliver 0 a b)) None) (position c ms).net) e) ∙ may)
+        by false e = false≢true (sym (ap (λ (x : Bool). is_ready_by (cond x (Some (Deliver 0 a b)) None) (position c ms).net && true) e) ∙ may)
         by true e =
-            let ready = sym (ap (λ (x : Bool). is_ready_by (cond x (Some (Deliver 0 a b)) None) (position c ms).net) e) ∙ may in
+            let ready = (and_parts (is_ready (Deliver 0 a b) (position c ms).net) true (sym (ap (λ (x : Bool). is_ready_by (cond x (Some (Deliver 0 a b)) None) (position c ms).net && true) e) ∙ may)).0 in
             let two = and_parts (is_some (slice_get (position c ms).net.callers 0)) (is_some (first_on a b (position c ms).net.packets)) ready in
             false≢true (sym (ap (λ us. is_some (first_on a b us)) empty) ∙ two.1)
 
@@ -324,115 +239,119 @@ module _ (c : Scene) where
 
 -- A replay.
 
-not-worn : (status : Status) (l : Layout) (ts : List Task) (es : List Event) → worn_clock status ≡ None → CarryAsFar status l ts es → CarryOut l ts es
-not-worn statuses.Done l ts es none h = h
-not-worn statuses.Usage l ts es none h = h
-not-worn (statuses.Scenario line reason) l ts es none h = h
-not-worn statuses.ReadFault l ts es none h = h
-not-worn statuses.WriteFault l ts es none h = h
-not-worn statuses.Memory l ts es none h = h
-not-worn (statuses.Worn clock) l ts es none h = absurd (cc)
+-- one standing behind another
+joined : (c : Scene) (s t u : Standing) → Follows c s t → Follows c t u → Follows c s u
+joined c s t _ f Begins = f
+joined c s t _ f (Then v u g x) = Then v u (joined c s t v f g) x
+
+-- who is behind a round has drained
+drained : (c : Scene) (phase : Phase) (s t : Standing) → ComesIn c phase s t → t.phase ≡ BehindRound → (rest : List Task) × (t.tasks ≡ Drain 0 ∷ rest)
+drained c (InSchedule []) s t x e = absurd (let both : InRound (all_scripts c) ≡ BehindRound = sym x.1 ∙ e in cc)
+drained c (InSchedule (steps.Step k ∷ ahead)) s t x e = absurd (let both : InSchedule ahead ≡ BehindRound = sym x.1 ∙ e in cc)
+drained c (InSchedule (steps.Deliver a b ∷ ahead)) s t x e = absurd (let both : InSchedule ahead ≡ BehindRound = sym x.1 ∙ e in cc)
+drained c (InSchedule (steps.Drain ∷ ahead)) s t x e = absurd (let both : InSchedule ahead ≡ BehindRound = sym x.1 ∙ e in cc)
+drained c (InRound []) s t x e = (s.tasks, x.0.tasks)
+drained c (InRound (k ∷ ahead)) s t (inl g) e = absurd (let both : InRound (k ∷ ahead) ≡ BehindRound = sym g.1 ∙ e in cc)
+drained c (InRound (k ∷ ahead)) s t (inr d) e = absurd (let both : InRound ahead ≡ BehindRound = sym d.2 ∙ e in cc)
+drained c BehindRound s t x e = absurd (let both : InRound (all_scripts c) ≡ BehindRound = sym x.2 ∙ e in cc)
 
 module _ (c : Scene) (shape : IsLayout c.layout) (keeps : Keeps c) where
-  abbrev one : List Task
-  one = in_schedule c.scripts [] c.schedule
+  all-went : (from : List Move) (s t : Standing) → Follows c (opened c) s → Follows c s t → Went c shape from s.tasks s.done → Went c shape from t.tasks t.done
+  all-went from s _ first Begins w = w
+  all-went from s _ first (Then t u f x) w =
+      let at = joined c (opened c) s t first f in
+      let g = good c shape keeps t at in
+      let next = good c shape keeps u (Then t u at x) in
+      comes c shape from t.phase t u (core-may c shape keeps u.tasks u.done next.core) g.phase x (all-went from s t first f w)
 
-  abbrev two : List Task
-  two = left_from c.schedule 1 c.scripts
-
-  abbrev behind-base : List Task
-  behind-base = one ++ (two ++ Drain 0 ∷ [])
-
-  tasks-are : tasks c ≡ reverse behind-base ++ map Do (reverse (base c))
-  tasks-are =
-      let front = map Do (base c) in
-      ap reverse (append_assoc (front ++ one) two (Drain 0 ∷ []) ∙ append_assoc front one (two ++ Drain 0 ∷ []))
-      ∙ reverse-append front behind-base ∙ ap (λ (ts : List Task). reverse behind-base ++ ts) (sym (map-reverse Do (base c)))
-
-  tasks-last : tasks c ≡ Drain 0 ∷ reverse ((map Do (base c) ++ one) ++ two)
-  tasks-last = reverse-append ((map Do (base c) ++ one) ++ two) (Drain 0 ∷ [])
-
-  turns : All IsTurn (reverse behind-base)
-  turns =
-      All-reverse IsTurn behind-base
-      (All-append IsTurn one (two ++ Drain 0 ∷ []) (in-steps c.layout c.sites c.scripts [] c.schedule keeps.schedule)
-      (All-append IsTurn two (Drain 0 ∷ []) (in-left c.schedule 1 (omega arith) c.scripts) (All-cons IsTurn (Drain 0) [] refl (All-nil IsTurn))))
-
-  module _ (es : List Event) (out : CarryOut c.layout (tasks c) es) where
-    all-given : (i : ℕ) (script : Script) → slice_get c.scripts i ≡ Some script → commands_of (suc i) es ≡ reverse script.commands
-    all-given i script there =
-        let is : commands_by c (suc i) ≡ Some script.commands = slice_get-map (λ (s : Script). s.commands) c.scripts i ∙ ap (option_map (λ (s : Script). s.commands)) there in
-        carried-commands c.layout (suc i) (tasks c) es out ∙ commands-given c keeps (suc i) script.commands is
-
-    gives-all : (fs : List Event) → es ≡ fs ++ reverse (base c) → Gives c fs
-    gives-all fs is = record {
-      some = λ i script there. (
-        [],
-        sym (append-nil (reverse (given-by c i fs)) ∙ ap (λ xs. reverse (commands_of (suc i) xs)) (sym is) ∙ ap reverse (all-given i script there) ∙ reverse-reverse script.commands),
-      );
-      none = λ i there. ap (commands_of (suc i)) (sym is) ∙ carried-commands c.layout (suc i) (tasks c) es out ∙ commands-none c keeps i there;
-    }
+  last-drained : (s : Standing) → Follows c (opened c) s → s.phase ≡ BehindRound → (rest : List Task) × (s.tasks ≡ Drain 0 ∷ rest)
+  last-drained _ Begins e = absurd (let both : InSchedule c.schedule ≡ BehindRound = e in cc)
+  last-drained _ (Then t u f x) e = drained c t.phase t u x e
 
   -- a whole history that goes on from these moves, to whose network the replay closes
-  pub record GoesOn (from : List Move) (closed : Closed) : Type 0 where
+  pub record Closes (from : List Move) (closed : Closed) : Type 0 where
     pub moves : List Move
     pub more : List Move
     pub goes_on : moves ≡ more ++ from
     pub whole : IsWhole (race_of c) moves
     pub closes : IsClosed (position c moves).net closed
 
-  goes-on : (from : List Move) (start newer : List Event) → Reached c from start → All IsRacing newer → (status : Status) (closed : Closed) → (ordered : IsOrdered c.layout (tasks c) status closed)
-      → worn_clock status ≡ None → ordered.events ≡ (newer ++ start) ++ reverse (base c) → GoesOn from closed
-  goes-on from start newer first racing status closed ordered unworn is =
-      let l = c.layout in
-      let es = ordered.events in
-      let out = not-worn status l (tasks c) es unworn ordered.carried in
-      let w = reached c from start newer first (subst (λ xs. may_be c.layout xs ≡ true) is ordered.may) racing (gives-all es out (newer ++ start) is) in
-      let net : (position c w.moves).net ≡ schedule c.layout ordered.events = w.net ∙ ap (schedule c.layout) (sym is) in
-      let last = subst (λ (ts : List Task). CarryOut c.layout ts ordered.events) tasks-last out in
-      let who : is_some (slice_get (schedule c.layout ordered.events).callers 0) ≡ true = ap (λ (z : NetState). is_some (slice_get z.callers 0)) (sym net) ∙ first-at c w.moves w.history in
-      let empty : (position c w.moves).net.packets ≡ [] = ap (λ (z : NetState). z.packets) net ∙ drains-leave-nothing l 0 last.0 es shape ordered.may who last.1.0 in
-      let whole = none-next c w.moves w.history empty (λ i script there. w.gave i ∙ ap (commands_of (suc i)) (sym is) ∙ all-given es out i script there) in
+  ends : (from : List Move) (status : Status) (closed : Closed) (p : IsPlayed c status closed) → worn_clock status ≡ None → Went c shape from p.standing.tasks p.standing.done → Closes from closed
+  ends from status closed p unworn w =
+      let s = p.standing in
+      let ms = w.leads.moves in
+      let h = w.leads.history in
+      let over = over-unworn status c s unworn p.over in
+      let out = not-worn status c.layout s.tasks p.ordered.events unworn p.ordered.carried in
+      let net : (position c w.leads.moves).net ≡ schedule c.layout p.ordered.events = w.leads.net ∙ carried-out-once c.layout s.tasks w.events p.ordered.events w.carried out in
+      let last = last-drained s p.follows over.phase in
+      let drains = subst (λ (ts : List Task). CarryOut c.layout ts p.ordered.events) last.1 out in
+      let who : is_some (slice_get (schedule c.layout p.ordered.events).callers 0) ≡ true = ap (λ (z : NetState). is_some (slice_get z.callers 0)) (sym net) ∙ first-at c ms h in
+      let empty : (position c w.leads.moves).net.packets ≡ [] =
+      ap (λ (z : NetState). z.packets) net ∙ drains-leave-nothing c.layout 0 drains.0 p.ordered.events shape p.ordered.may who drains.1.0 in
       record {
-        moves = w.moves;
-        more = w.more;
-        goes_on = w.goes_on;
-        whole = (w.history, whole);
-        closes = subst (λ (n : NetState). IsClosed n closed) (sym net) ordered.closes;
+        moves = w.leads.moves;
+        more = w.leads.more;
+        goes_on = w.leads.goes;
+        whole = (h, none-next c shape ms h empty (stops over));
+        closes = subst (λ (n : NetState). IsClosed n closed) (sym net) p.ordered.closes;
       }
+    where
+      stops : IsOver c p.standing → (i : ℕ) → goes_on c w.leads.moves i ≡ false
+      stops over i = by (slice_get c.scripts i) refl
+        where
+          by : (o : Option Script) → slice_get c.scripts i ≡ o → goes_on c w.leads.moves i ≡ false
+          by None e = ap (λ o. is_some (next_of o) && is_now (Go i) (position c w.leads.moves).left (position c w.leads.moves).net) (left-none c i w.leads.moves w.leads.history e)
+          by (Some script) e =
+              let of : IsScript c (suc i) = (omega arith, inside c.scripts i script e) in
+              let a = script-at c (suc i) of in
+              let t = over.none (suc i) of in
+              let place : a.place ≡ i = (let b = a.is in omega (arith, b)) in
+              let same : schedule c.layout t.events ≡ (position c w.leads.moves).net = carried-out-once c.layout p.standing.tasks t.events w.events t.carried w.carried ∙ sym w.leads.net in
+              subst (λ j. goes_on c w.leads.moves j ≡ false) place
+              (sym (same-may c w.leads.moves w.leads.history (suc i) a.place (script_at (suc i) c.scripts) a.is a.less a.found (position c w.leads.moves).net)
+              ∙ sym (λ j. may_go_on c (w.leads.done_is j) (suc i) (same j)) ∙ t.is)
+            where
+              inside : (scripts : List Script) (j : ℕ) (x : Script) → slice_get scripts j ≡ Some x → suc j ≤ length scripts
+              inside [] j x f = absurd (cc)
+              inside (y ∷ scripts) zero x f = omega arith
+              inside (y ∷ scripts) (suc j) x f = (let lt = inside scripts j x f in omega (arith, lt))
 
-  comes-whole : (status : Status) (closed : Closed) → IsOrdered c.layout (tasks c) status closed → worn_clock status ≡ None → GoesOn [] closed
-  comes-whole status closed ordered unworn =
-      let l = c.layout in
-      let es = ordered.events in
-      let out = not-worn status l (tasks c) es unworn ordered.carried in
-      let split = splits l (reverse behind-base) (map Do (reverse (base c))) es turns (subst (λ (ts : List Task). CarryOut c.layout ts ordered.events) tasks-are out) in
-      goes-on [] [] split.newer (none-reached c) split.racing status closed ordered unworn
-      (split.is ∙ ap₂ (λ xs ys. xs ++ ys) (sym (append-nil split.newer)) (carried-is l (reverse (base c)) split.older split.carried))
+  pub comes-whole : (status : Status) (closed : Closed) → IsPlayed c status closed → worn_clock status ≡ None → Closes [] closed
+  comes-whole status closed p unworn =
+      ends [] status closed p unworn
+      (all-went [] (opened c) p.standing Begins p.follows
+      (record {
+        events = reverse (base c);
+        carried = subst (λ (ts : List Task). CarryOut c.layout ts (reverse (base c))) (map-reverse Do (base c)) (carried-all c.layout (reverse (base c)));
+        may = base-may c shape keeps;
+        leads = record { moves = []; more = []; goes = refl; history = tt; done_is = refl; net = refl };
+      }))
 
   -- where the schedule is one of moves, it goes on from them
-  turns-left : All IsTurn (reverse (two ++ Drain 0 ∷ []))
-  turns-left =
-      All-reverse IsTurn (two ++ Drain 0 ∷ [])
-      (All-append IsTurn two (Drain 0 ∷ []) (in-left c.schedule 1 (omega arith) c.scripts) (All-cons IsTurn (Drain 0) [] refl (All-nil IsTurn)))
+  pub comes-behind : (ms : List Move) → IsHistory (replaying (race_of c)) ms → c.schedule ≡ map step_of (reverse ms)
+      → (status : Status) (closed : Closed) → IsPlayed c status closed → worn_clock status ≡ None → Closes ms closed
+  comes-behind ms h are status closed p unworn =
+      let s = in_steps c c.schedule ms [] in
+      let first = follows c c.schedule ms [] h (are ∙ sym (append-nil (map step_of (reverse ms)))) in
+      let went : Went c shape ms s.tasks s.done =
+      record {
+        events = events c ms;
+        carried = carried-two c.layout (events_of (race_of c) ms) (reverse (base c));
+        may = history-may c shape keeps ms h;
+        leads = record { moves = ms; more = []; goes = refl; history = h; done_is = refl; net = sym (net-is c ms) };
+      } in
+      by s first went (either c (opened c) s p.standing first p.follows) (over-unworn status c p.standing unworn p.over)
+    where
+      carried-two : (l : Layout) (es fs : List Event) → CarryOut l (map Do es ++ map Do fs) (es ++ fs)
+      carried-two l [] fs = carried-all l fs
+      carried-two l (e ∷ es) fs = (es ++ fs, (refl, carried-two l es fs))
 
-  pub comes-behind : (ms : List Move) → IsHistory (replaying (race_of c)) ms → in_schedule c.scripts [] c.schedule ≡ map Do (reverse (events_of (race_of c) ms))
-      → (status : Status) (closed : Closed) → IsOrdered c.layout (tasks c) status closed → worn_clock status ≡ None → GoesOn ms closed
-  comes-behind ms h steps status closed ordered unworn =
-      let l = c.layout in
-      let es = ordered.events in
-      let start = events_of (race_of c) ms in
-      let rest = two ++ Drain 0 ∷ [] in
-      let out = not-worn status l (tasks c) es unworn ordered.carried in
-      let were : reverse one ≡ map Do (events_of (race_of c) ms) = ap reverse steps ∙ sym (map-reverse Do (reverse start)) ∙ ap (map Do) (reverse-reverse start) in
-      let all : tasks c ≡ reverse (two ++ Drain 0 ∷ []) ++ map Do (events_of (race_of c) ms ++ reverse (base c)) =
-      tasks-are ∙ ap (λ (ts : List Task). ts ++ map Do (reverse (base c))) (reverse-append one rest ∙ ap (λ (ts : List Task). reverse (two ++ Drain 0 ∷ []) ++ ts) were)
-      ∙ append_assoc (reverse rest) (map Do start) (map Do (reverse (base c))) ∙ ap (λ (ts : List Task). reverse (two ++ Drain 0 ∷ []) ++ ts) (sym (map-append Do start (reverse (base c)))) in
-      let split = splits l (reverse rest) (map Do (start ++ reverse (base c))) es turns-left (subst (λ (ts : List Task). CarryOut c.layout ts ordered.events) all out) in
-      goes-on ms start split.newer (history-reached c ms h) split.racing status closed ordered unworn
-      (split.is ∙ ap (λ xs. split.newer ++ xs) (carried-is l (start ++ reverse (base c)) split.older split.carried) ∙ sym (append_assoc split.newer start (reverse (base c))))
+      by : (s : Standing) → Follows c (opened c) s → Went c shape ms s.tasks s.done → Follows c s p.standing ⊎ Follows c p.standing s → IsOver c p.standing → Closes ms closed
+      by s first w (inl f) over = ends ms status closed p unworn (all-went ms s p.standing first f w)
+      by s first w (inr f) over = ends ms status closed p unworn (subst (λ (t : Standing). Went c shape ms t.tasks t.done) (sym (ends-there c p.standing s over f)) w)
 
 pub replays-are-whole : ReplaysAreWhole
-replays-are-whole c lines status closed shape keeps ordered unworn =
-    let w = comes-whole (record c { schedule = lines }) shape keeps status closed ordered unworn in
+replays-are-whole c lines status closed shape keeps played unworn =
+    let w = comes-whole (record c { schedule = lines }) shape keeps status closed played unworn in
     (w.moves, (w.whole, w.closes))

@@ -308,7 +308,7 @@ module _ (c : Scene) (asked : Asked) (n : ℕ) where
           merged = w.merged;
           has = subst (λ xs. HasFound c asked xs t.explored) (append_assoc w.before w.ends m.members) (record {
             findings = λ tells. counts tells (comes c) (w.before ++ w.ends) m.members
-                (members-to (asks_of asked) c n ms number m is (comes c) (members-come (asks_of asked) c n ms number m is (told-only tells))) (later pending w) (w.has.findings tells);
+                (members-to (asks_of asked) c n ms number m is (comes c) (members-come (asks_of asked) c n ms number m is (told-only tells))) (w.has.findings tells);
             histories = told-both (length (w.before ++ w.ends)) (length m.members) s.explored.histories number t.explored.histories w.has.histories is.number histories
                 ∙ ap told_number (sym (length-append (w.before ++ w.ends) m.members));
             events = (let a = w.has.events in omega (arith, a, events));

@@ -2,6 +2,7 @@
 -- k is the number of a script, i its place in a list, left, told and p are its own; those of all are lists.
 use Rattle.std.proofs.Common.{ℕ, zero, suc, ◌≡◌, ◌+◌, ◌<◌, Bool, true, false, List, [], ◌∷◌, ◌++◌, length, map, drop, reverse, set, option_to_list, Option, Some, None, slice_get, slice_set, refl, sym, ◌∙◌, ap, ap₂, subst, arith, append_assoc, codes, decimal}
 use Rattle.std.specs.List.{All, cons_option, flat_map, filter_map}
+use Rattle.std.specs.Option.{option_map}
 use Rattle.std.proofs.lemmas.List.{append-nil, reverse-append, length-reverse}
 use Rattle.std.proofs.lemmas.List.Concat.{flat_map-append}
 use Rattle.std.proofs.lemmas.List.Elements.{filter_map-append}
@@ -10,7 +11,8 @@ use Rattle.chorus_entry.specs.declared.act.Act.TheVariants as variants
 use Rattle.chorus_entry.specs.declared.command.Command.{Command}
 use Rattle.law_explore.specs.Outcome.{Answered, Settled, plain_act, post_in, posted, posts_in, answers_from, answer_facts}
 use Rattle.law_explore.specs.Moment.{answer_with, settled_from, settled_facts}
-use Rattle.law_explore.specs.Races.{Told, next_of, behind_next}
+use Rattle.law_explore.specs.Races.{Order, Told, next_of, behind_next}
+use Rattle.law_replay.specs.Shown.{orders_from, orders_of}
 use Rattle.chorus_scene.specs.Scene.{Script}
 use Rattle.chorus_show.specs.Lines.{act_text}
 use Rattle.chorus_show.specs.Phrases.{phrase}
@@ -21,18 +23,18 @@ use Rattle.chorus_explore.specs.Tellings.{answer_by, answers_by, answered_line}
 
 -- Lists of the same length.
 
-pub record ProgressAt (asks : Bool) (k i : ℕ) (ss : List Script) (lefts : List (List Command)) (tolds : List (List Told)) (ps : List Progress) : Type 0 where
+pub record ProgressAt (asks : Bool) (k i : ℕ) (ss : List Script) (lefts : List (List Order)) (tolds : List (List Told)) (ps : List Progress) : Type 0 where
   pub script : Script
-  pub left : List Command
+  pub left : List Order
   pub told : List Told
   pub p : Progress
   pub is_script : slice_get ss i ≡ Some script
   pub is_left : slice_get lefts i ≡ Some left
   pub is_told : slice_get tolds i ≡ Some told
   pub is_p : slice_get ps i ≡ Some p
-  pub is : IsProgress asks (k + i) script.commands left told p
+  pub is : IsProgress asks (k + i) (orders_of script) left told p
 
-pub progress-length : (asks : Bool) (k : ℕ) (ss : List Script) (lefts : List (List Command)) (tolds : List (List Told)) (ps : List Progress) → AreProgress asks k ss lefts tolds ps
+pub progress-length : (asks : Bool) (k : ℕ) (ss : List Script) (lefts : List (List Order)) (tolds : List (List Told)) (ps : List Progress) → AreProgress asks k ss lefts tolds ps
     → (length ps ≡ length ss) × (length lefts ≡ length ss)
 progress-length asks k [] [] [] [] h = (refl, refl)
 progress-length asks k (s ∷ ss) (l ∷ lefts) (t ∷ tolds) (p ∷ ps) h = (let rest = progress-length asks (k + 1) ss lefts tolds ps h.1 in (ap suc rest.0, ap suc rest.1))
@@ -43,11 +45,11 @@ progress-length asks k (s ∷ ss) [] tolds ps h = absurd h
 progress-length asks k (s ∷ ss) (l ∷ lefts) [] ps h = absurd h
 progress-length asks k (s ∷ ss) (l ∷ lefts) (t ∷ tolds) [] h = absurd h
 
-pub progress-at : (asks : Bool) (k i : ℕ) (ss : List Script) (lefts : List (List Command)) (tolds : List (List Told)) (ps : List Progress) → AreProgress asks k ss lefts tolds ps → i < length ss
+pub progress-at : (asks : Bool) (k i : ℕ) (ss : List Script) (lefts : List (List Order)) (tolds : List (List Told)) (ps : List Progress) → AreProgress asks k ss lefts tolds ps → i < length ss
     → ProgressAt asks k i ss lefts tolds ps
 progress-at asks k i [] [] [] [] h lt = absurd (omega (arith, lt))
 progress-at asks k zero (s ∷ ss) (l ∷ lefts) (t ∷ tolds) (p ∷ ps) h lt =
-    record { script = s; left = l; told = t; p = p; is_script = refl; is_left = refl; is_told = refl; is_p = refl; is = (let e : k ≡ k + 0 = omega arith in subst (λ j. IsProgress asks j s.commands l t p) e h.0) }
+    record { script = s; left = l; told = t; p = p; is_script = refl; is_left = refl; is_told = refl; is_p = refl; is = (let e : k ≡ k + 0 = omega arith in subst (λ j. IsProgress asks j (orders_of s) l t p) e h.0) }
 progress-at asks k (suc i) (s ∷ ss) (l ∷ lefts) (t ∷ tolds) (p ∷ ps) h lt =
     let rest = progress-at asks (k + 1) i ss lefts tolds ps h.1 (omega (arith, lt)) in
     let e : (k + 1) + i ≡ k + suc i = omega arith in
@@ -60,7 +62,7 @@ progress-at asks k (suc i) (s ∷ ss) (l ∷ lefts) (t ∷ tolds) (p ∷ ps) h l
       is_left = rest.is_left;
       is_told = rest.is_told;
       is_p = rest.is_p;
-      is = subst (λ j. IsProgress asks j rest.script.commands rest.left rest.told rest.p) e rest.is;
+      is = subst (λ j. IsProgress asks j (orders_of rest.script) rest.left rest.told rest.p) e rest.is;
     }
 progress-at asks k i [] [] [] (p ∷ ps) h lt = absurd h
 progress-at asks k i [] [] (t ∷ tolds) ps h lt = absurd h
@@ -70,17 +72,17 @@ progress-at asks k i (s ∷ ss) (l ∷ lefts) [] ps h lt = absurd h
 progress-at asks k i (s ∷ ss) (l ∷ lefts) (t ∷ tolds) [] h lt = absurd h
 
 -- one script goes on
-pub progress-set : (asks : Bool) (k i : ℕ) (ss : List Script) (lefts : List (List Command)) (tolds : List (List Told)) (ps : List Progress) (script : Script) (left : List Command) (told : List Told) (p : Progress)
-    → AreProgress asks k ss lefts tolds ps → slice_get ss i ≡ Some script → IsProgress asks (k + i) script.commands left told p
+pub progress-set : (asks : Bool) (k i : ℕ) (ss : List Script) (lefts : List (List Order)) (tolds : List (List Told)) (ps : List Progress) (script : Script) (left : List Order) (told : List Told) (p : Progress)
+    → AreProgress asks k ss lefts tolds ps → slice_get ss i ≡ Some script → IsProgress asks (k + i) (orders_of script) left told p
     → AreProgress asks k ss (slice_set lefts i left) (slice_set tolds i told) (set ps i p)
 progress-set asks k i [] [] [] [] script left told p h at is = absurd (cc)
 progress-set asks k zero (s ∷ ss) (l ∷ lefts) (t ∷ tolds) (q ∷ ps) script left told p h at is =
     let e : k + 0 ≡ k = omega arith in
     let same : script ≡ s = cc in
-    (subst (λ (z : Script). IsProgress asks k z.commands left told p) same (subst (λ j. IsProgress asks j script.commands left told p) e is), h.1)
+    (subst (λ (z : Script). IsProgress asks k (orders_of z) left told p) same (subst (λ j. IsProgress asks j (orders_of script) left told p) e is), h.1)
 progress-set asks k (suc i) (s ∷ ss) (l ∷ lefts) (t ∷ tolds) (q ∷ ps) script left told p h at is =
     let e : k + suc i ≡ (k + 1) + i = omega arith in
-    (h.0, progress-set asks (k + 1) i ss lefts tolds ps script left told p h.1 at (subst (λ j. IsProgress asks j script.commands left told p) e is))
+    (h.0, progress-set asks (k + 1) i ss lefts tolds ps script left told p h.1 at (subst (λ j. IsProgress asks j (orders_of script) left told p) e is))
 progress-set asks k i [] [] [] (q ∷ ps) script left told p h at is = absurd h
 progress-set asks k i [] [] (t ∷ tolds) ps script left told p h at is = absurd h
 progress-set asks k i [] (l ∷ lefts) tolds ps script left told p h at is = absurd h
@@ -90,7 +92,7 @@ progress-set asks k i (s ∷ ss) (l ∷ lefts) (t ∷ tolds) [] script left told
 
 -- A command more.
 
-pub next-is : (n : ℕ) (cs : List Command) (c : Command) → next_of (Some (drop n cs)) ≡ Some c → (slice_get cs n ≡ Some c) × (behind_next (Some (drop n cs)) ≡ drop (n + 1) cs)
+pub next-is : (n : ℕ) (cs : List Order) (c : Order) → next_of (Some (drop n cs)) ≡ Some c → (slice_get cs n ≡ Some c) × (behind_next (Some (drop n cs)) ≡ drop (n + 1) cs)
 next-is zero [] c e = absurd (cc)
 next-is zero (d ∷ cs) c e = (e, refl)
 next-is (suc n) [] c e = absurd (cc)
@@ -99,11 +101,21 @@ next-is (suc n) (d ∷ cs) c e = let two = next-is n cs c e in (two.0, two.1 ∙
     more : (n : ℕ) → suc (n + 1) ≡ suc n + 1
     more n = omega arith
 
-pub next-there : (n : ℕ) (cs : List Command) → next_of (Some (drop n cs)) ≡ slice_get cs n
+pub next-there : (n : ℕ) (cs : List Order) → next_of (Some (drop n cs)) ≡ slice_get cs n
 next-there zero [] = refl
 next-there zero (d ∷ cs) = refl
 next-there (suc n) [] = refl
 next-there (suc n) (d ∷ cs) = next-there n cs
+
+-- a command of a script, as an order and without its mark
+pub order-command : (waits : List ℕ) (i : ℕ) (commands : List Command) (n : ℕ) → option_map (λ (o : Order). o.command) (slice_get (orders_from waits i commands) n) ≡ slice_get commands n
+order-command waits i [] n = refl
+order-command waits i (c ∷ commands) zero = refl
+order-command waits i (c ∷ commands) (suc n) = order-command waits (i + 1) commands n
+
+pub orders-long : (waits : List ℕ) (i : ℕ) (commands : List Command) → length (orders_from waits i commands) ≡ length commands
+orders-long waits i [] = refl
+orders-long waits i (c ∷ commands) = ap suc (orders-long waits (i + 1) commands)
 
 there-below : {X : Type 0} (xs : List X) (n : ℕ) (x : X) → slice_get xs n ≡ Some x → n < length xs
 there-below [] n x e = absurd (cc)
@@ -141,7 +153,7 @@ answers-last asks k i (b ∷ told) a =
     ap (λ xs. one ++ xs) (answers-last asks k (i + 1) told a ∙ ap (λ (j : ℕ). flat_map fact_line (answers_by asks k (i + 1) told) ++ answered_line asks k j a.act a.settles) n)
     ∙ sym (append_assoc one (flat_map fact_line (answers_by asks k (i + 1) told)) (answered_line asks k (i + suc (length told)) a.act a.settles))
 
-pub one-more : (asks : Bool) (k : ℕ) (all left : List Command) (told : List Told) (p new : Progress) (c : Command) (a : Told) → IsProgress asks k all left told p → next_of (Some left) ≡ Some c
+pub one-more : (asks : Bool) (k : ℕ) (all left : List Order) (told : List Told) (p new : Progress) (c : Order) (a : Told) → IsProgress asks k all left told p → next_of (Some left) ≡ Some c
     → new.next ≡ p.next + 1 → new.answers.items ≡ p.answers.items ++ answered_line asks k (p.next + 1) a.act a.settles → new.posts.items ≡ p.posts.items ++ option_to_list (post_in a.act)
     → IsProgress asks k all (behind_next (Some left)) (a ∷ told) new
 one-more asks k all left told p new c a is next n answers posts =
@@ -173,7 +185,7 @@ pub by-claims : (k i : ℕ) (told : List Told) → answers_by true k i told ≡ 
 by-claims k i [] = refl
 by-claims k i (it ∷ told) = ap (λ fs. answer_with k i it.act it.settles ∷ fs) (by-claims k (i + 1) told)
 
-pub answers-are : (k : ℕ) (ss : List Script) (lefts : List (List Command)) (tolds : List (List Told)) (ps : List Progress) → AreProgress false k ss lefts tolds ps
+pub answers-are : (k : ℕ) (ss : List Script) (lefts : List (List Order)) (tolds : List (List Told)) (ps : List Progress) → AreProgress false k ss lefts tolds ps
     → flat_map fact_line (answer_facts k tolds) ≡ flat_map (λ (p : Progress). p.answers.items) ps
 answers-are k [] [] [] [] h = refl
 answers-are k (s ∷ ss) (l ∷ lefts) (t ∷ tolds) (p ∷ ps) h =
@@ -186,7 +198,7 @@ answers-are k (s ∷ ss) [] tolds ps h = absurd h
 answers-are k (s ∷ ss) (l ∷ lefts) [] ps h = absurd h
 answers-are k (s ∷ ss) (l ∷ lefts) (t ∷ tolds) [] h = absurd h
 
-pub settled-are : (k : ℕ) (ss : List Script) (lefts : List (List Command)) (tolds : List (List Told)) (ps : List Progress) → AreProgress true k ss lefts tolds ps
+pub settled-are : (k : ℕ) (ss : List Script) (lefts : List (List Order)) (tolds : List (List Told)) (ps : List Progress) → AreProgress true k ss lefts tolds ps
     → flat_map fact_line (settled_facts k tolds) ≡ flat_map (λ (p : Progress). p.answers.items) ps
 settled-are k [] [] [] [] h = refl
 settled-are k (s ∷ ss) (l ∷ lefts) (t ∷ tolds) (p ∷ ps) h =
@@ -199,7 +211,7 @@ settled-are k (s ∷ ss) [] tolds ps h = absurd h
 settled-are k (s ∷ ss) (l ∷ lefts) [] ps h = absurd h
 settled-are k (s ∷ ss) (l ∷ lefts) (t ∷ tolds) [] h = absurd h
 
-pub posts-are : (asks : Bool) (k : ℕ) (ss : List Script) (lefts : List (List Command)) (tolds : List (List Told)) (ps : List Progress) → AreProgress asks k ss lefts tolds ps
+pub posts-are : (asks : Bool) (k : ℕ) (ss : List Script) (lefts : List (List Order)) (tolds : List (List Told)) (ps : List Progress) → AreProgress asks k ss lefts tolds ps
     → posts_in tolds ≡ flat_map (λ (p : Progress). p.posts.items) ps
 posts-are asks k [] [] [] [] h = refl
 posts-are asks k (s ∷ ss) (l ∷ lefts) (t ∷ tolds) (p ∷ ps) h = ap₂ (λ xs ys. xs ++ ys) (sym h.0.posts) (posts-are asks (k + 1) ss lefts tolds ps h.1)
@@ -212,12 +224,12 @@ posts-are asks k (s ∷ ss) (l ∷ lefts) (t ∷ tolds) [] h = absurd h
 
 -- nothing of these scripts was performed
 pub none-performed : (asks : Bool) (k : ℕ) (ss : List Script) (ps : List Progress) → length ps ≡ length ss → All (λ (p : Progress). (p.next ≡ 0) × (p.answers.items ≡ []) × (p.posts.items ≡ [])) ps
-    → AreProgress asks k ss (map (λ (s : Script). s.commands) ss) (map (λ (cs : List Command). []) (map (λ (s : Script). s.commands) ss)) ps
+    → AreProgress asks k ss (map orders_of ss) (map (λ (os : List Order). []) (map orders_of ss)) ps
 none-performed asks k [] [] e all = tt
 none-performed asks k (s ∷ ss) (p ∷ ps) e all =
     let one = all 0 p (omega arith) in (
       record {
-        rest = ap (λ (n : ℕ). drop n s.commands) (sym one.0);
+        rest = ap (λ (n : ℕ). drop n (orders_of s)) (sym one.0);
         few = (let n = one.0 in omega (arith, n));
         count = sym one.0;
         answers = one.1;

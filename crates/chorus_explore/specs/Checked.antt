@@ -6,7 +6,7 @@ use Rattle.chorus_ui.specs.Layout.{IsLayout}
 use Rattle.law_explore.specs.declared.moves.Move.{Move}
 use Rattle.law_explore.specs.Races.{IsWhole, replaying}
 use Rattle.law_explore.specs.Search.{IsHistory}
-use Rattle.law_replay.specs.Shown.{race_of, with_schedule}
+use Rattle.law_replay.specs.Shown.{race_of, with_schedule, IsPlayed}
 use Rattle.chorus_claims.specs.Pieces.{Claim, meets}
 use Rattle.chorus_scene.specs.Limits.{Keeps}
 use Rattle.chorus_scene.specs.Scene.{Scene}
@@ -14,8 +14,6 @@ use Rattle.chorus_scene.specs.declared.scenario.Step.{Step}
 use Rattle.chorus_show.specs.declared.status.Status.{Status}
 use Rattle.chorus_net.specs.declared.closed.Closed.{Closed}
 use Rattle.chorus_net.specs.Closing.{IsClosed}
-use Rattle.chorus_replay.specs.Order.{tasks}
-use Rattle.chorus_replay.specs.Ordered.{IsOrdered}
 use Rattle.chorus_replay.specs.Laws.{worn_clock}
 use Rattle.explore_report.specs.declared.explored.Explored.{Explored}
 use Rattle.explore_report.specs.declared.judgements.Judgement.{Judgement}
@@ -85,7 +83,7 @@ abbrev pub ReplaysMeetClaims : Type 0
 ReplaysMeetClaims =
     (c : Scene) (steps : List Step) (k : Claim) (status : Status) (closed : Closed) → IsLayout c.layout →
     Keeps (record c { schedule = steps }) → Judged c k Holds →
-    IsOrdered c.layout (tasks (record c { schedule = steps })) status closed → worn_clock status ≡ None →
+    IsPlayed (record c { schedule = steps }) status closed → worn_clock status ≡ None →
     (ms : List Move) × (IsWhole (race_of c) ms × IsClosed (position c ms).net closed × IsMetAlong c k ms)
 
 -- A claim is not met where its moves lead. They are its schedule: what that is replayed to, which is the network that they
@@ -102,5 +100,5 @@ abbrev pub FailuresAreReplayed : Type 0
 FailuresAreReplayed =
     (c : Scene) (k : Claim) (ms : List Move) (status : Status) (closed : Closed) → IsLayout c.layout → Keeps c →
     IsAsked c k ms → meets k (facts_at c ms) ≡ false →
-    IsOrdered c.layout (tasks (with_schedule ms c)) status closed → worn_clock status ≡ None →
+    IsPlayed (with_schedule ms c) status closed → worn_clock status ≡ None →
     IsShownFailing c k ms closed

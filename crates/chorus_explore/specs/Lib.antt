@@ -9,4 +9,5 @@ pub mod Ends
 pub mod Shown
 pub mod Drawn
 pub mod Drawings
+pub mod DrawnOutcomes
 pub mod AlikeSites

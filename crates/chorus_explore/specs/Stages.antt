@@ -1,8 +1,9 @@
 -- How far the sites and the scripts are behind moves.
 -- c is a scenario, ms are moves, the latest first, k is the number of a script, told is what answered, the latest first,
 -- asks says whether claims are asked.
-use Rattle.std.specs.Prelude.{ℕ, ◌≡◌, ◌≤◌, ◌+◌, ◌⊎◌, Bool, List, [], ◌∷◌, length, drop, reverse, Option, Some, IfSome, slice_get}
+use Rattle.std.specs.Prelude.{ℕ, ◌≡◌, ◌≤◌, ◌+◌, ◌⊎◌, Bool, true, false, List, [], ◌∷◌, length, drop, reverse, Option, Some, IfSome, slice_get}
 use Rattle.std.specs.List.{All, flat_map, filter, filter_map}
+use Rattle.std.specs.Option.{option_map}
 use Rattle.chorus_ui.specs.declared.limits.TheConstants.{CLOCK_LIMIT}
 use Rattle.chorus_entry.specs.declared.command.Command.{Command}
 use Rattle.chorus_entry.specs.declared.entry.Entry.{Entry}
@@ -11,10 +12,10 @@ use Rattle.law_network.specs.Calls.{just_started}
 use Rattle.law_network.specs.Network.{NetState, Event}
 use Rattle.law_explore.specs.declared.moves.Move.{Move}
 use Rattle.law_explore.specs.Search.{IsHistory, state_after}
-use Rattle.law_explore.specs.Races.{Position, Told, event_of, seat_0, next_of, may_come, replaying}
-use Rattle.law_explore.specs.Outcome.{Fact, posted, outcome_after}
-use Rattle.law_explore.specs.Moment.{moment_after, next_fact}
-use Rattle.law_replay.specs.Shown.{race_of}
+use Rattle.law_explore.specs.Races.{Order, Position, Told, event_of, seat_0, next_of, may_come, may_script, replaying}
+use Rattle.law_explore.specs.Outcome.{Fact, Next, Stuck, posted, outcome_after, left_fact}
+use Rattle.law_explore.specs.Moment.{moment_after}
+use Rattle.law_replay.specs.Shown.{orders_of, race_of}
 use Rattle.chorus_scene.specs.Scene.{Scene, Script}
 use Rattle.chorus_net.specs.Sites.{SitesState, net}
 use Rattle.chorus_net.specs.Worn.{compared_by}
@@ -44,7 +45,7 @@ abbrev pub facts_at : Scene → List Move → List ℕ
 facts_at c ms = outcome_lines (moment_after (race_of c) ms)
 
 -- a script of which so many commands were performed
-pub record IsProgress (asks : Bool) (k : ℕ) (all left : List Command) (told : List Told) (p : Progress) : Type 0 where
+pub record IsProgress (asks : Bool) (k : ℕ) (all left : List Order) (told : List Told) (p : Progress) : Type 0 where
   pub rest : left ≡ drop p.next all
   pub few : p.next ≤ length all
   pub count : length told ≡ p.next
@@ -52,10 +53,10 @@ pub record IsProgress (asks : Bool) (k : ℕ) (all left : List Command) (told : 
   pub posts : p.posts.items ≡ filter_map posted (reverse told)
 
 -- those of all scripts, from script k on
-abbrev pub AreProgress : Bool → ℕ → List Script → List (List Command) → List (List Told) → List Progress → Type 0
+abbrev pub AreProgress : Bool → ℕ → List Script → List (List Order) → List (List Told) → List Progress → Type 0
 AreProgress asks k [] [] [] [] = Unit {0}
 AreProgress asks k (s ∷ ss) (left ∷ lefts) (told ∷ tolds) (p ∷ ps) =
-    IsProgress asks k s.commands left told p × AreProgress asks (k + 1) ss lefts tolds ps
+    IsProgress asks k (orders_of s) left told p × AreProgress asks (k + 1) ss lefts tolds ps
 AreProgress _ _ _ _ _ _ = ⊥
 
 -- the sites and the scripts are where the moves lead
@@ -105,8 +106,15 @@ abbrev pub posted_lines : List (List Entry) → Progress → List ℕ
 posted_lines js p = flat_map (message_lines js) p.posts.items
 
 -- this is the next command of script i, counted from 0, behind the moves
+abbrev pub next_command : Scene → List Move → ℕ → Option Command
+next_command c ms i = option_map (λ (o : Order). o.command) (next_of (slice_get (position c ms).left i))
+
 abbrev pub IsNext : Scene → List Move → ℕ → Command → Type 0
-IsNext c ms i d = next_of (slice_get (position c ms).left i) ≡ Some d
+IsNext c ms i d = next_command c ms i ≡ Some d
+
+-- and whether it may come
+abbrev pub goes_on : Scene → List Move → ℕ → Bool
+goes_on c ms i = may_script i (position c ms)
 
 -- a command of the script
 pub record IsOfScript (c : Scene) (i : ℕ) (d : Command) : Type 0 where
@@ -124,11 +132,16 @@ IsPlaceFor c i d place =
 abbrev pub asked_lines : List PlaceState → Progress → List ℕ
 asked_lines ps p = flat_map (post_lines ps) p.posts.items
 
--- the line of the next command of script i, counted from 0, where one is left behind the moves
-abbrev pub next_by : ℕ → Option (List Command) → Option (List Command) → List Fact
-next_by k (Some all) (Some left) = next_fact k all left
-next_by k _ _ = []
+-- the line of the next command of script i, counted from 0, where one is left behind the moves: at an end it is stuck
+-- there
+abbrev pub fact_by : Bool → ℕ → ℕ → Fact
+fact_by true = Stuck
+fact_by false = Next
 
-abbrev pub next_line : Scene → List Move → ℕ → List ℕ
-next_line c ms i =
-    outcome_lines (next_by (i + 1) (slice_get (race_of c).scripts i) (slice_get (position c ms).left i))
+abbrev pub left_by : Bool → ℕ → Option (List Order) → Option (List Order) → List Fact
+left_by ended k (Some all) (Some left) = left_fact (fact_by ended) k all left
+left_by ended k _ _ = []
+
+abbrev pub left_line : Bool → Scene → List Move → ℕ → List ℕ
+left_line ended c ms i =
+    outcome_lines (left_by ended (i + 1) (slice_get (race_of c).scripts i) (slice_get (position c ms).left i))

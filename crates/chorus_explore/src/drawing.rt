@@ -172,7 +172,7 @@ fn follow(
 }
 
 /// Of these moves, of which there are some, the one that is drawn where the generator has come to this state.
-fn drawn_move(moves: &[Move], state: u64) -> Move
+pub(crate) fn drawn_move(moves: &[Move], state: u64) -> Move
     requires { moves.now ≢ [] }
     ensures { result ≡ move_by moves.now (number_of state) }
 {

@@ -72,6 +72,7 @@ pub(crate) fn go_over(
 ) -> Result<Explored, PlaceFault>
     requires { asked.now.most < 2 ^ 32 }
     ensures over { IfOk result (λ explored. IsOver scenario.now asked.now explored) }
+    ensures sums { IfOk result (λ explored. HaveSums explored.findings.items.items) }
     ensures carried { IfOk result (λ explored.
         CarriesOut (asks_of asked.now) (race_of scenario.now) explored) }
     ensures worn { (clock : ℕ) → IsErrOf result (PlaceFault.Worn clock) →
@@ -472,7 +473,7 @@ fn tell_end(
         return stage.restarted(alloc);
     }
     let moves = Vec::from_slice(alloc, &stage.moves)?;
-    let (text, sites) = stage.outcome(alloc)?;
+    let (text, sites) = stage.outcome(alloc, scenario)?;
     findings.add(alloc, text, &moves, number)?;
     Ok(sites)
 }
@@ -500,9 +501,10 @@ fn if_there(scenario: &Scenario, kept: Option<Stage>, moves: &[Move]) -> Option<
     Some(stage)
 }
 
-/// Whether the moves that led to a stage are the same as those of a class.
-fn are_same_moves(one: &[Move], other: &[Move]) -> bool
-    ensures { result ≡ true → one.now ≡ other.now }
+/// Whether these are the same moves.
+pub(crate) fn are_same_moves(one: &[Move], other: &[Move]) -> bool
+    ensures yes { result ≡ true → one.now ≡ other.now }
+    ensures no { result ≡ false → one.now ≢ other.now }
 {
     if one.len() != other.len() {
         return false;

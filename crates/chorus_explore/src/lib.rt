@@ -16,6 +16,7 @@
 mod alike_sites;
 mod checking;
 mod drawing;
+mod drawn_outcomes;
 mod exploration;
 mod exploring;
 mod laws;
@@ -25,7 +26,7 @@ mod sums;
 
 pub use checking::check_scenario;
 pub use drawing::draw_scenario;
-pub use exploration::{ExploreFault, explore_scenario};
+pub use exploration::{ExploreFault, HISTORIES_DRAWN, explore_scenario};
 pub use exploring::explore;
 pub use laws::{
     failures_are_replayed, replays_are_told, replays_are_whole, replays_meet_claims,

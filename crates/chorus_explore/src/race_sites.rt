@@ -1,18 +1,18 @@
 //! The sites of a scenario behind its setup, on which the moves of a race are performed.
 
 ghost use Rattle.std.specs.List.{flat_map};
-ghost use Rattle.std.specs.Prelude.{◌≡◌, ℕ, Bool, ◌<◌, ◌≤◌, ◌+◌, ◌^◌, [], ◌∷◌, ◌++◌, true, false, length, map, option_to_list, slice_get, Ok, Some, None, IfOk, OnOk, IfSome, IsNone, IsErrOf};
+ghost use Rattle.std.specs.Prelude.{◌≡◌, ℕ, Bool, ◌<◌, ◌≤◌, ◌+◌, ◌^◌, ◌||◌, not, [], ◌∷◌, ◌++◌, true, false, length, map, option_to_list, slice_get, Ok, Some, None, IfOk, OnOk, IfSome, IsNone, IsErrOf};
 ghost use Rattle.chorus_ui.specs.Layout.{has_place};
 ghost use Rattle.chorus_place.specs.declared.fault.PlaceFault.TheVariants as PlaceFault;
 ghost use Rattle.chorus_scene.specs.Limits.{Keeps};
 ghost use Rattle.law_explore.specs.declared.moves.Move.TheVariants as Move;
 ghost use Rattle.law_explore.specs.Merging.{ComeToldAlike};
-ghost use Rattle.law_explore.specs.Moment.{next_facts};
-ghost use Rattle.law_explore.specs.Outcome.{post_in};
+ghost use Rattle.law_explore.specs.Outcome.{left_facts, post_in};
 ghost use Rattle.law_explore.specs.Positions.{next_behind};
-ghost use Rattle.law_explore.specs.Races.{links_between, links_to, next_of};
+ghost use Rattle.law_explore.specs.Races.{links_between, links_to};
 ghost use Rattle.law_network.specs.Calls.{just_started};
 ghost use Rattle.law_network.specs.Network.{Act as Acting, happened, numbers, place as place_of, place_numbers, replied};
+ghost use Rattle.law_awaits.specs.Awaits.{would_take};
 ghost use Rattle.law_network.specs.Schedules.{may_happen};
 ghost use Rattle.law_replay.specs.Shown.{race_of};
 ghost use Rattle.chorus_merge.specs.Steps.{journals_of};
@@ -23,8 +23,8 @@ ghost use Rattle.chorus_net.specs.Worn.{compared_by};
 ghost use Rattle.chorus_ui.specs.declared.limits.TheConstants.{CLOCK_LIMIT};
 ghost use Rattle.std.specs.Option.{option_map};
 ghost use Rattle.explore_moments.specs.Moments.{states};
-ghost use Rattle.explore_report.specs.Facts.{outcome_lines};
-ghost use Rattle.chorus_explore.specs.Stages.{AreAt, AreFresh, AreProgress, IsNext, IsOfScript, IsPlaceFor, IsReached, MayWear, asked_lines, comes, coming, facts_at, may_go, moves_of, next_line, position, posted_lines};
+ghost use Rattle.explore_report.specs.Facts.{fact_line, outcome_lines};
+ghost use Rattle.chorus_explore.specs.Stages.{AreAt, AreFresh, AreProgress, IsNext, IsOfScript, IsPlaceFor, IsReached, MayWear, asked_lines, comes, coming, fact_by, facts_at, goes_on, left_line, may_go, moves_of, next_command, position, posted_lines};
 ghost use Rattle.chorus_explore.specs.Tellings.{answered_line, kept_of, settle_act, settles_in, tells_of};
 
 use crate::alike_sites::are_alike;
@@ -33,11 +33,13 @@ use chorus_calls::Settle;
 use chorus_entry::{Act, Command, Entry, MsgId, Tag};
 use chorus_net::Sites;
 use chorus_place::{Place, PlaceFault};
-use chorus_replay::{enter, set_up};
+use chorus_replay::{enter, set_up, would_take};
 use chorus_scene::Scenario;
 use chorus_ui::Layout;
 use explore_moments::{push_callers, push_groups, push_ports, push_posts, push_under_way};
-use explore_report::{push_all_ports, push_answered, push_messages, push_next, push_settled};
+use explore_report::{
+    push_all_ports, push_answered, push_messages, push_next, push_settled, push_stuck,
+};
 use law_explore::Move;
 use law_machine::Reply;
 use std::alloc::{AllocError, Global};
@@ -217,6 +219,7 @@ impl Stage {
     ) -> Result<(), PlaceFault>
         requires reached { IsReached scenario.now self.old }
         requires next { IsNext scenario.now (moves_of self.old) index command.now }
+        requires comes { may_go scenario.now (Move.Go index) (moves_of self.old) ≡ true }
         requires may { may_happen (Acting (index + 1) command.now) (net self.old.sites) ≡ true }
         ensures at { OnOk result (AreAt scenario.now (Move.Go index ∷ moves_of self.old) self.new) }
         ensures moves { (self.new.moves ≡ self.old.moves) × (self.new.asks ≡ self.old.asks) }
@@ -292,54 +295,72 @@ impl Stage {
         push_under_way(places, self.sites.layout().places(), &mut text)?;
         push_groups(places, &mut text)?;
         push_callers(self.sites.callers(), count, &mut text)?;
-        self.push_next_commands(scenario, &mut text)?;
+        self.push_left(scenario, false, &mut text)?;
         Ok(text)
     }
 
-    /// Appends the line of the next command of each script that has one left.
-    fn push_next_commands(&self, scenario: &Scenario, text: &mut Vec<u8>) -> Result<(), AllocError>
+    /// Appends the line of the next command of each script that has one left: at an end it is stuck there.
+    fn push_left(
+        &self,
+        scenario: &Scenario,
+        ended: bool,
+        text: &mut Vec<u8>,
+    ) -> Result<(), AllocError>
         requires { IsReached scenario.now self.now }
         ensures { OnOk result (text.new.items ≡ text.old.items ++ outcome_lines
-            (next_facts 1 (race_of scenario.now).scripts
+            (left_facts (fact_by ended) 1 (race_of scenario.now).scripts
             (position scenario.now (moves_of self.now)).left)) }
     {
         for index in 0..scenario.scripts().len() {
-            self.push_next_command(scenario, index, text)?;
+            self.push_left_of(scenario, index, ended, text)?;
         }
         Ok(())
     }
 
     /// Appends the line of the next command of the script, where one is left.
-    fn push_next_command(
+    fn push_left_of(
         &self,
         scenario: &Scenario,
         index: usize,
+        ended: bool,
         text: &mut Vec<u8>,
     ) -> Result<(), AllocError>
         requires reached { IsReached scenario.now self.now }
         requires index { index < length scenario.now.scripts }
         ensures { OnOk result (text.new.items
-            ≡ text.old.items ++ next_line scenario.now (moves_of self.now) index) }
+            ≡ text.old.items ++ left_line ended scenario.now (moves_of self.now) index) }
     {
         let _layout = scenario.layout();
         let Some(_) = self.left_of(scenario, index as u16) else {
             return Ok(());
         };
-        push_next(index as u64 + 1, self.scripts[index].next as u64 + 1, text)
+        push_next_line(
+            ended,
+            index as u64 + 1,
+            self.scripts[index].next as u64 + 1,
+            text,
+        )
     }
 
     /// Gives the lines of what the moves of the stage came to, and the sites, started again.
-    pub(crate) fn outcome(self, alloc: Global) -> Result<(Vec<u8>, Sites), AllocError>
-        ensures text { (c : Scene) → IsReached c self → self.asks ≡ false →
-            IfOk result (λ r. r.0.items ≡ comes c (moves_of self)) }
-        ensures sites { (c : Scene) → IsReached c self →
-            IfOk result (λ r. AreFresh c (Some r.1)) }
+    pub(crate) fn outcome(
+        self,
+        alloc: Global,
+        scenario: &Scenario,
+    ) -> Result<(Vec<u8>, Sites), AllocError>
+        requires { IsReached scenario.now self }
+        ensures text { self.asks ≡ false →
+            IfOk result (λ r. r.0.items ≡ comes scenario.now (moves_of self)) }
+        ensures sites { IfOk result (λ r. AreFresh scenario.now (Some r.1)) }
     {
+        let mut stuck = Vec::new(alloc);
+        self.push_left(scenario, true, &mut stuck)?;
         let (closed, sites) = self.sites.restart(alloc)?;
         let mut text = Vec::with_capacity(alloc, OUTCOME_ROOM)?;
         push_answers(&self.scripts, &mut text)?;
         push_posted(&self.scripts, &closed.journals, &mut text)?;
         push_all_ports(&closed.journals, &closed.ports, &mut text)?;
+        text.extend_from_slice(&stuck)?;
         Ok((text, sites))
     }
 
@@ -370,13 +391,13 @@ impl Stage {
         requires index { index < length scenario.now.scripts }
         ensures some { IfSome result (λ d. IsNext scenario.now (moves_of self.now) index d.now) }
         ensures none { IsNone result →
-            next_of (slice_get (position scenario.now (moves_of self.now)).left index) ≡ None }
+            next_command scenario.now (moves_of self.now) index ≡ None }
     {
         let script = &scenario.scripts()[usize::from(index)];
         script.commands().get(self.scripts[usize::from(index)].next)
     }
 
-    /// Adds to the moves that may come the next command of the script, where one is left.
+    /// Adds to the moves that may come the next command of the script, where one is left and may come.
     fn add_script(
         &self,
         scenario: &Scenario,
@@ -390,11 +411,28 @@ impl Stage {
     {
         let _layout = scenario.layout();
         let script = index as u16;
-        let Some(_) = self.left_of(scenario, script) else {
+        let Some(command) = self.left_of(scenario, script) else {
             return Ok(());
         };
+        if !self.goes_on(scenario, script, command) {
+            return Ok(());
+        }
         moves.push(Move::Go { script })?;
         Ok(())
+    }
+
+    /// Whether this command, the next one of the script, may come: one that waits only where it would be answered by a message.
+    fn goes_on(&self, scenario: &Scenario, index: u16, command: &Command) -> bool
+        requires reached { IsReached scenario.now self.now }
+        requires index { index < length scenario.now.scripts }
+        requires next { IsNext scenario.now (moves_of self.now) index command.now }
+        ensures { result ≡ goes_on scenario.now (moves_of self.now) index }
+    {
+        let _sites = self.sites.layout();
+        let _scene = scenario.layout();
+        let script = &scenario.scripts()[usize::from(index)];
+        let waits = script.is_await(self.scripts[usize::from(index)].next);
+        may_come(&self.sites, u32::from(index) + 1, command, waits)
     }
 
     /// Adds to the moves that may come the deliveries from each place.
@@ -509,6 +547,17 @@ fn where_performed(scenario: &Scenario, index: u16, command: &Command) -> u16
     )
 }
 
+/// Whether the command of the seat may come, where it waits, or not.
+fn may_come(sites: &Sites, seat: u32, command: &Command, waits: bool) -> bool
+    requires { may_happen (Acting seat command.now) (net sites.now) ≡ true }
+    ensures { result ≡ (not waits || would_take seat command.now (net sites.now)) }
+{
+    match command {
+        Command::Take { port } => !waits || would_take(sites, seat, *port),
+        _ => !waits,
+    }
+}
+
 /// Performs the command of the seat on the sites of a race, and gives where its own entry stands in the journal of its
 /// place, and what a reply that it took settled.
 fn act_at(
@@ -580,6 +629,22 @@ fn push_answer(
         Some(settles) => push_settled(script, number, act, &settles, text),
         None => push_answered(script, number, act, text),
     }
+}
+
+/// Appends the line of the next command of a script: at an end it is stuck there.
+fn push_next_line(
+    ended: bool,
+    script: u64,
+    number: u64,
+    text: &mut Vec<u8>,
+) -> Result<(), AllocError>
+    ensures { OnOk result (text.new.items
+        ≡ text.old.items ++ fact_line (fact_by ended script number)) }
+{
+    if ended {
+        return push_stuck(script, number, text);
+    }
+    push_next(script, number, text)
 }
 
 /// Appends the lines of what the commands of the scripts were answered.

@@ -7,7 +7,7 @@ use Rattle.std.specs.Option.{IfSome, IsNone, is_some, unwrap_or}
 use Rattle.std.proofs.lemmas.Bool.Decides.{nat_tests}
 use Rattle.chorus_ui.specs.Layout.{IsLayout, Shape, is_layout, new_layout}
 use Rattle.chorus_words.specs.declared.words.Words.{Words}
-use Rattle.chorus_words.specs.declared.words.Words.TheVariants.{Replay, Run, RunOn, Load, Audit, Judge, JudgeFor, Promises, PromisesFor, Picture, Lossy, Crew, Explore, ExploreMost, Check, CheckMost, CheckDrawn}
+use Rattle.chorus_words.specs.declared.words.Words.TheVariants.{Replay, Run, RunOn, Load, Audit, Judge, JudgeFor, Promises, PromisesFor, Picture, Lossy, Crew, Explore, ExploreMost, ExploreFrom, Check, CheckMost, CheckDrawn}
 use Rattle.chorus_words.specs.Words.{Ask, IsTurns, IsWithin, spelled}
 use Rattle.chorus_words.specs.Cutting.{AskByThree, is_value}
 
@@ -38,6 +38,7 @@ spelled_values (Lossy first) w = rw (decimal_value first w) refl
 spelled_values (Crew first commands) w = rw (decimal_value first w.0, decimal_value commands (omega (arith, w.1))) refl
 spelled_values Explore w = refl
 spelled_values (ExploreMost most) w = rw (decimal_value most (omega (arith, w))) refl
+spelled_values (ExploreFrom most first) w = rw (decimal_value most (omega (arith, w.0)), decimal_value first w.1) refl
 spelled_values Check w = refl
 spelled_values (CheckMost most) w = rw (decimal_value most (omega (arith, w))) refl
 spelled_values (CheckDrawn count first) w = rw (decimal_value count (omega (arith, w.0)), decimal_value first w.1) refl
@@ -79,6 +80,7 @@ few_words (Lossy first) = omega arith
 few_words (Crew first commands) = omega arith
 few_words Explore = omega arith
 few_words (ExploreMost most) = omega arith
+few_words (ExploreFrom most first) = omega arith
 few_words Check = omega arith
 few_words (CheckMost most) = omega arith
 few_words (CheckDrawn count first) = omega arith
@@ -111,6 +113,9 @@ no_promises e = true≢false (ap (λ (w : List ℕ). length w == 5) (the_word (c
 
 no_judge : Some (codes "audit") ≡ Some (codes "judge") → ⊥
 no_judge e = true≢false (ap (λ (w : List ℕ). get_or w 0 0 == 97) (the_word (codes "audit") (codes "judge") e))
+
+no_exploring : (word : List ℕ) → (get_or word 0 0 == 101) ≡ false → Some word ≡ Some (codes "explore") → ⊥
+no_exploring word other e = true≢false (sym (ap (λ (w : List ℕ). get_or w 0 0 == 101) (the_word word (codes "explore") e)) ∙ other)
 
 no_drawn : (word : List ℕ) → (get_or word 0 0 == 100) ≡ false → Some word ≡ Some (codes "drawn") → ⊥
 no_drawn word other e = true≢false (sym (ap (λ (w : List ℕ). get_or w 0 0 == 100) (the_word word (codes "drawn") e)) ∙ other)
@@ -148,6 +153,9 @@ one_spelling (Crew first commands) (Crew f c) w v e = ap₂ Crew
     (same_number commands c (omega (arith, w.1)) (omega (arith, v.1)) (ap (λ l. slice_get l 2) e))
 one_spelling Explore Explore w v e = refl
 one_spelling (ExploreMost most) (ExploreMost m) w v e = ap ExploreMost (same_number most m (omega (arith, w)) (omega (arith, v)) (ap (λ l. slice_get l 1) e))
+one_spelling (ExploreFrom most first) (ExploreFrom m f) w v e = ap₂ ExploreFrom
+    (same_number most m (omega (arith, w.0)) (omega (arith, v.0)) (ap (λ l. slice_get l 1) e))
+    (same_number first f w.1 v.1 (ap (λ l. slice_get l 2) e))
 one_spelling Check Check w v e = refl
 one_spelling (CheckMost most) (CheckMost m) w v e = ap CheckMost (same_number most m (omega (arith, w)) (omega (arith, v)) (ap (λ l. slice_get l 1) e))
 one_spelling (CheckDrawn count first) (CheckDrawn c f) w v e = ap₂ CheckDrawn
@@ -215,6 +223,7 @@ no_audit_of sites turns none (Lossy first) by = no_word turns (sym by.2)
 no_audit_of sites turns none (Crew first commands) by = other_word (codes "crew") refl (sym by.0)
 no_audit_of sites turns none Explore by = no_word sites (sym by.1)
 no_audit_of sites turns none (ExploreMost most) by = no_word turns (sym by.2)
+no_audit_of sites turns none (ExploreFrom most first) by = no_exploring (codes "audit") refl by.0
 no_audit_of sites turns none Check by = no_word sites (sym by.1)
 no_audit_of sites turns none (CheckMost most) by = no_word turns (sym by.2)
 no_audit_of sites turns none (CheckDrawn count first) by = no_drawn (codes "audit") refl by.0
@@ -268,6 +277,7 @@ no_picture_of : (sites turns : List ℕ) → ((l : Shape) → IsLayout l → sit
 no_picture_of sites turns none (Picture s t) by = none (record { sites = s; turns = t }) by.3 (the_word sites (decimal s) by.1) (the_word turns (decimal t) by.2)
 no_picture_of sites turns none Explore by = no_word sites (sym by.1)
 no_picture_of sites turns none (ExploreMost most) by = no_word turns (sym by.2)
+no_picture_of sites turns none (ExploreFrom most first) by = no_exploring (codes "picture") refl by.0
 no_picture_of sites turns none asked by =
     absurd (let word : codes "picture" ≡ unwrap_or (slice_get (spelled asked) 0) [] = the_word (codes "picture") (unwrap_or (slice_get (spelled asked) 0) []) by.0 in let long = ap (λ (w : List ℕ). length w) word in omega (arith, long))
 
@@ -301,6 +311,7 @@ no_explore_of : (word : List ℕ) → ((n : ℕ) → n < 2 ^ 32 → word ≡ dec
 no_explore_of word none (ExploreMost n) by = none n by.3 (the_word word (decimal n) by.1)
 no_explore_of word none Explore by = no_word word (sym by.1)
 no_explore_of word none (Picture sites turns) by = no_word (decimal turns) by.2
+no_explore_of word none (ExploreFrom most first) by = no_word (decimal first) by.2
 no_explore_of word none asked by =
     absurd (let first : codes "explore" ≡ unwrap_or (slice_get (spelled asked) 0) [] = the_word (codes "explore") (unwrap_or (slice_get (spelled asked) 0) []) by.0 in let long = ap (λ (w : List ℕ). length w) first in omega (arith, long))
 

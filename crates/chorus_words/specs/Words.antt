@@ -4,7 +4,7 @@ use Rattle.std.specs.Prelude.{ℕ, ◌≡◌, ◌^◌, ◌<◌, ◌≤◌, List,
 use Rattle.chorus_ui.specs.Layout.{IsLayout}
 use Rattle.chorus_words.specs.declared.words.TheConstants.{LOAD_LIMIT}
 use Rattle.chorus_words.specs.declared.words.Words.{Words}
-use Rattle.chorus_words.specs.declared.words.Words.TheVariants.{Replay, Run, RunOn, Load, Audit, Judge, JudgeFor, Promises, PromisesFor, Picture, Lossy, Crew, Explore, ExploreMost, Check, CheckMost, CheckDrawn}
+use Rattle.chorus_words.specs.declared.words.Words.TheVariants.{Replay, Run, RunOn, Load, Audit, Judge, JudgeFor, Promises, PromisesFor, Picture, Lossy, Crew, Explore, ExploreMost, ExploreFrom, Check, CheckMost, CheckDrawn}
 
 abbrev pub spelled : Words → List (List ℕ)
 spelled Replay = codes "replay" ∷ []
@@ -21,6 +21,7 @@ spelled (Lossy first) = codes "lossy" ∷ decimal first ∷ []
 spelled (Crew first commands) = codes "crew" ∷ decimal first ∷ decimal commands ∷ []
 spelled Explore = codes "explore" ∷ []
 spelled (ExploreMost most) = codes "explore" ∷ decimal most ∷ []
+spelled (ExploreFrom most first) = codes "explore" ∷ decimal most ∷ decimal first ∷ []
 spelled Check = codes "check" ∷ []
 spelled (CheckMost most) = codes "check" ∷ decimal most ∷ []
 spelled (CheckDrawn count first) = codes "drawn" ∷ decimal count ∷ decimal first ∷ []
@@ -45,6 +46,7 @@ IsWithin (Lossy first) = first < 2 ^ 64
 IsWithin (Crew first commands) = (first < 2 ^ 64) × (commands ≤ LOAD_LIMIT)
 IsWithin Explore = Unit {0}
 IsWithin (ExploreMost most) = most < 2 ^ 32
+IsWithin (ExploreFrom most first) = (most < 2 ^ 32) × (first < 2 ^ 64)
 IsWithin Check = Unit {0}
 IsWithin (CheckMost most) = most < 2 ^ 32
 IsWithin (CheckDrawn count first) = (count < 2 ^ 32) × (first < 2 ^ 64)

@@ -13,4 +13,4 @@ mod reading;
 mod words;
 
 pub use reading::read_words;
-pub use words::{CHECK_MOST, EXPLORE_MOST, LOAD_LIMIT, Words};
+pub use words::{CHECK_MOST, EXPLORE_FIRST, EXPLORE_MOST, LOAD_LIMIT, Words};

@@ -104,6 +104,10 @@ fn asked_by(what: Option<&str>, first: Option<&str>, second: Option<&str>) -> Op
         ("explore", Some(most), None) => Some(Words::ExploreMost {
             most: most_of(most)?,
         }),
+        ("explore", Some(most), Some(first)) => Some(Words::ExploreFrom {
+            most: most_of(most)?,
+            first: parse_decimal(first.as_bytes())?,
+        }),
         ("check", None, None) => Some(Words::Check),
         ("check", Some(most), None) => Some(Words::CheckMost {
             most: most_of(most)?,

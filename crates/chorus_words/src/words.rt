@@ -6,6 +6,9 @@ pub const LOAD_LIMIT: u32 = 65_536;
 /// The most events that the word `explore` alone asks to be carried out.
 pub const EXPLORE_MOST: u32 = 1_000_000;
 
+/// The state from which the words `explore` and `explore MOST` have schedules drawn, where a limit is met.
+pub const EXPLORE_FIRST: u64 = 1;
+
 /// The most events that the word `check` alone asks to be carried out.
 pub const CHECK_MOST: u32 = 1_000_000;
 
@@ -37,10 +40,13 @@ pub enum Words {
     /// `crew FIRST COMMANDS`: of so many commands, at most [`LOAD_LIMIT`], that are drawn from the first state on, those that send to a
     /// port are performed, and a crew handles what was sent.
     Crew { first: u64, commands: u32 },
-    /// `explore`: what may come of a scenario is told, with at most [`EXPLORE_MOST`] events carried out.
+    /// `explore`: what may come of a scenario is told, with at most [`EXPLORE_MOST`] events carried out; where that limit is met,
+    /// also what schedules come to that are drawn from [`EXPLORE_FIRST`] on.
     Explore,
     /// `explore MOST`: so it is with so many events at most.
     ExploreMost { most: u32 },
+    /// `explore MOST FIRST`: and schedules are drawn from this first state on.
+    ExploreFrom { most: u32, first: u64 },
     /// `check`: each claim of a scenario is checked over every schedule, with at most [`CHECK_MOST`] events carried out.
     Check,
     /// `check MOST`: so it is with so many events at most.

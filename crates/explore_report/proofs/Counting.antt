@@ -1,14 +1,14 @@
 -- Histories more, that come to one text, are counted where they come to.
-use Rattle.std.proofs.Common.{ℕ, zero, suc, ◌≡◌, ◌≢◌, ◌+◌, ◌-◌, ◌^◌, ◌<◌, ◌≤◌, min, List, [], ◌∷◌, ◌++◌, length, reverse, get_or, set, ◌⊎◌, inl, inr, refl, sym, ◌∙◌, ap, subst, arith}
+use Rattle.std.proofs.Common.{ℕ, zero, suc, ltb, ◌≡◌, ◌≢◌, ◌+◌, ◌-◌, ◌^◌, ◌<◌, ◌≤◌, min, Bool, true, false, cond, List, [], ◌∷◌, ◌++◌, length, reverse, get_or, set, ◌⊎◌, inl, inr, refl, sym, ◌∙◌, ap, subst, arith}
 use Rattle.std.specs.List.{All, AllPairs, Contains}
 use Rattle.std.proofs.lemmas.List.{map-append, length-map, length-set, get_or-map, get_or-set_same, get_or-set_other}
 use Rattle.std.proofs.lemmas.List.Elements.{at_read, All-append, All-contains, All-map, All-push, All-set, All-weaker, Contains-append_left, Contains-append_right, Contains-get_or, Contains-push}
 use Rattle.std.proofs.lemmas.List.Quantifiers.{all_pairs_push}
-use Rattle.std.proofs.lemmas.Bool.{cases_eq, cases_lt}
+use Rattle.std.proofs.lemmas.Bool.{cases_eq, cases_lt, ltb-true, ltb-false}
 use Rattle.law_explore.specs.declared.moves.Move.{Move}
 use Rattle.law_explore.specs.Explores.{Count, IsCounted, told_number}
 use Rattle.explore_report.specs.declared.findings.Finding.{Finding}
-use Rattle.explore_report.specs.Findings.{AreFindings, AreLater, ComeTo, texts_of}
+use Rattle.explore_report.specs.Findings.{AreFindings, ComeTo, shorter, texts_of}
 
 -- Counts.
 
@@ -67,7 +67,7 @@ same-texts [] i g e = refl
 same-texts (f ∷ fs) zero g e = ap (λ t. t ∷ texts_of fs) e
 same-texts (f ∷ fs) (suc i) g e = ap (λ ts. f.text.items ∷ ts) (same-texts fs i g e)
 
-module _ (comes : List Move → List ℕ) (hs ks : List (List Move)) (fs : List Finding) (h : List Move) (t : List ℕ) (number : ℕ) (is : ComeTo comes t h number ks) (later : AreLater hs ks) (f : AreFindings comes hs fs) where
+module _ (comes : List Move → List ℕ) (hs ks : List (List Move)) (fs : List Finding) (h : List Move) (t : List ℕ) (number : ℕ) (is : ComeTo comes t h number ks) (f : AreFindings comes hs fs) where
   abbrev Shown : List (List Move) → Finding → Type 0
   Shown xs g = Contains xs (reverse g.moves.items) × (comes (reverse g.moves.items) ≡ g.text.items)
 
@@ -96,21 +96,18 @@ module _ (comes : List Move → List ℕ) (hs ks : List (List Move)) (fs : List 
   abbrev First : List (List Move) → Finding → Type 0
   First xs g = All (NoneShorter g) xs
 
-  first-on : All (First (hs ++ ks)) fs
-  first-on j d lt =
-      let g = get_or fs j d in
-      All-append (NoneShorter g) hs ks (f.first j d lt)
-      (All-weaker (λ (k : List Move). length (reverse g.moves.items) ≤ length k) (NoneShorter g) (λ k le e. le) ks
-      (All-contains (λ (x : List Move). All (λ (k : List Move). length x ≤ length k) ks) hs (reverse g.moves.items) later (f.shown j d lt).0))
+  -- of another outcome none of these is shorter, since none of the new ones comes to it
+  first-on : (g : Finding) → First hs g → g.text.items ≢ t → First (hs ++ ks) g
+  first-on g c ne =
+      All-append (NoneShorter g) hs ks c
+      (All-weaker (λ (k : List Move). comes k ≡ t) (NoneShorter g) (λ k e q. absurd (ne (sym q ∙ e))) ks is.come)
 
   within : (k : ℕ) → k < length fs → k < length (texts_of fs)
   within k lt = (let n = length-map fs (λ (z : Finding). z.text.items) in omega (arith, n, lt))
 
   -- an outcome that was found
-  module _ (i : ℕ) (old : Finding) (sum : ℕ) (lt : i < length fs) (at : old ≡ get_or fs i old) (text : old.text.items ≡ t) (is-sum : sum ≡ min (old.histories + number) (2 ^ 64 - 1)) where
-    abbrev new : Finding
-    new = record old { histories = sum }
-
+  module _ (i : ℕ) (old new : Finding) (lt : i < length fs) (at : old ≡ get_or fs i old) (text : old.text.items ≡ t) (kept : new.text.items ≡ old.text.items)
+      (is-sum : new.histories ≡ min (old.histories + number) (2 ^ 64 - 1)) (shows : reverse new.moves.items ≡ shorter h (reverse old.moves.items)) where
     stands : (d : Finding) → get_or fs i d ≡ old
     stands = at_read fs (λ (z : Finding). z ≡ old) i old lt at refl
 
@@ -121,34 +118,67 @@ module _ (comes : List Move → List ℕ) (hs ks : List (List Move)) (fs : List 
     here = text-at i old lt ∙ ap (λ (z : Finding). z.text.items) (stands old) ∙ text
 
     texts-are : texts_of (set fs i new) ≡ texts_of fs
-    texts-are = same-texts fs i new (ap (λ (z : Finding). z.text.items) (sym (stands new)))
+    texts-are = same-texts fs i new (kept ∙ ap (λ (z : Finding). z.text.items) (sym (stands new)))
 
     new-counted : Counted (hs ++ ks) new
     new-counted =
-        counted-all comes old.text.items hs ks old.histories number sum (subst (Counted hs) (stands old) (f.counted i old lt))
-        (subst (λ (o : List ℕ). All (λ (k : List Move). comes k ≡ o) ks) (sym text) is.come) is.number is-sum
+        subst (λ (o : List ℕ). IsCounted comes o (hs ++ ks) new.histories) (sym kept)
+        (counted-all comes old.text.items hs ks old.histories number new.histories (subst (Counted hs) (stands old) (f.counted i old lt))
+        (subst (λ (o : List ℕ). All (λ (k : List Move). comes k ≡ o) ks) (sym text) is.come) is.number is-sum)
 
-    all-counted : All (Counted (hs ++ ks)) (set fs i new)
-    all-counted k d l = by (cases_eq k i)
+    -- what it shows is one of the two, and no longer than either
+    shows-either : (b : Bool) → ltb (length h) (length (reverse old.moves.items)) ≡ b → reverse new.moves.items ≡ cond b h (reverse old.moves.items)
+        → Shown (hs ++ ks) new × (length (reverse new.moves.items) ≤ length h) × (length (reverse new.moves.items) ≤ length (reverse old.moves.items))
+    shows-either true e is-h =
+        let less = ltb-true (length h) (length (reverse old.moves.items)) e in
+        let n = ap (λ (x : List Move). length x) is-h in (
+          (
+            subst (Contains (hs ++ ks)) (sym is-h) (Contains-append_right hs ks h is.among),
+            ap comes is-h ∙ All-contains (λ (k : List Move). comes k ≡ t) ks h is.come is.among ∙ sym (kept ∙ text),
+          ),
+          omega (arith, n),
+          omega (arith, n, less),
+        )
+    shows-either false e is-old =
+        let more = ltb-false (length h) (length (reverse old.moves.items)) e in
+        let n = ap (λ (x : List Move). length x) is-old in
+        let was = subst (Shown (hs ++ ks)) (stands old) (shown-on i old lt) in (
+          (subst (Contains (hs ++ ks)) (sym is-old) was.0, ap comes is-old ∙ was.1 ∙ sym kept),
+          omega (arith, n, more),
+          omega (arith, n),
+        )
+
+    either : Shown (hs ++ ks) new × (length (reverse new.moves.items) ≤ length h) × (length (reverse new.moves.items) ≤ length (reverse old.moves.items))
+    either = shows-either (ltb (length h) (length (reverse old.moves.items))) refl shows
+
+    new-first : First (hs ++ ks) new
+    new-first =
+        All-append (NoneShorter new) hs ks
+        (All-weaker (NoneShorter old) (NoneShorter new) (λ k le e. (let a = le (e ∙ kept) in let b = either.2 in omega (arith, a, b))) hs (subst (First hs) (stands old) (f.first i old lt)))
+        (All-weaker (λ (k : List Move). length h ≤ length k) (NoneShorter new) (λ k le e. (let b = either.1 in omega (arith, le, b))) ks is.least)
+
+    -- what the new ones do not change of another outcome stays, and the one that was found has it
+    all-set : (P Q : Finding → Type 0) → ((g : Finding) → P g → g.text.items ≢ t → Q g) → All P fs → Q new → All Q (set fs i new)
+    all-set P Q on was now k d l = by (cases_eq k i)
       where
         in-fs : k < length fs
         in-fs = let n = length-set fs i new in omega (arith, l, n)
 
-        by : (k ≡ i) ⊎ (k ≢ i) → Counted (hs ++ ks) (get_or (set fs i new) k d)
-        by (inl e) = subst (Counted (hs ++ ks)) (sym (ap (λ (j : ℕ). get_or (set fs i new) j d) e ∙ get_or-set_same fs i new d lt)) new-counted
+        by : (k ≡ i) ⊎ (k ≢ i) → Q (get_or (set fs i new) k d)
+        by (inl e) = subst Q (sym (ap (λ (j : ℕ). get_or (set fs i new) j d) e ∙ get_or-set_same fs i new d lt)) now
         by (inr ne) =
-            subst (Counted (hs ++ ks)) (sym (get_or-set_other fs i k new d ne))
-            (counted-on (get_or fs k d) (f.counted k d in-fs)
+            subst Q (sym (get_or-set_other fs i k new d ne))
+            (on (get_or fs k d) (was k d in-fs)
             (λ e. differs (texts_of fs) i k t f.once (within i lt) (within k in-fs) ne (text-at k d in-fs ∙ e ∙ sym here)))
 
     pub counts-more : AreFindings comes (hs ++ ks) (set fs i new)
     counts-more = record {
-      shown = All-set (Shown (hs ++ ks)) fs i new (subst (Shown (hs ++ ks)) (stands old) (shown-on i old lt)) shown-on;
+      shown = All-set (Shown (hs ++ ks)) fs i new either.0 shown-on;
       once = subst (AllPairs (λ (one other : List ℕ). one ≢ other)) (sym texts-are) f.once;
       found = subst (λ (ts : List (List ℕ)). All (Comes ts) (hs ++ ks)) (sym texts-are)
           (found-on (texts_of fs) (subst (Contains (texts_of fs)) here (Contains-get_or (texts_of fs) i t (within i lt))) f.found);
-      counted = all-counted;
-      first = All-set (First (hs ++ ks)) fs i new (subst (First (hs ++ ks)) (stands old) (first-on i old lt)) first-on;
+      counted = all-set (Counted hs) (Counted (hs ++ ks)) counted-on f.counted new-counted;
+      first = all-set (First hs) (First (hs ++ ks)) first-on f.first new-first;
     }
 
   -- a new one
@@ -191,5 +221,6 @@ module _ (comes : List Move → List ℕ) (hs ks : List (List Move)) (fs : List 
           (All-weaker (Comes (texts_of fs)) (Comes (texts_of fs ++ t ∷ [])) (λ g c. Contains-append_left (texts_of fs) (t ∷ []) (comes g) c) hs f.found));
       counted = All-push (Counted (hs ++ ks)) fs new
           (λ k d l. counted-on (get_or fs k d) (f.counted k d l) (none k d l)) this-counted;
-      first = All-push (First (hs ++ ks)) fs new first-on this-first;
+      first = All-push (First (hs ++ ks)) fs new
+          (λ k d l. first-on (get_or fs k d) (f.first k d l) (none k d l)) this-first;
     }

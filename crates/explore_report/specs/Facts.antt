@@ -11,7 +11,7 @@ use Rattle.chorus_entry.specs.declared.id.MsgId.{MsgId}
 use Rattle.chorus_entry.specs.declared.message.Message.{Message}
 use Rattle.chorus_show.specs.Lines.{act_text, answer_text}
 use Rattle.chorus_show.specs.Phrases.{phrase, id_text}
-use Rattle.law_explore.specs.Outcome.{Fact, Answered, Judged, Stale, Held, Settled, Open, Copied, Moving, Members, Calls, Holds, Next, Outcome}
+use Rattle.law_explore.specs.Outcome.{Fact, Answered, Judged, Stale, Held, Stuck, Settled, Open, Copied, Moving, Members, Calls, Holds, Next, Outcome}
 use Rattle.law_explore.specs.Outcome as facts
 
 -- an act without the numbers that only tell when
@@ -38,6 +38,7 @@ fact_line (Judged x verdict) = phrase (codes "verdict") (id_text x ∷ verdict_t
 fact_line (Stale x) = phrase (codes "stale") (id_text x ∷ []) ++ 10 ∷ []
 fact_line (Held q actor waiting) =
     phrase (codes "port") (name_text q ∷ name_text actor ∷ map id_text waiting) ++ 10 ∷ []
+fact_line (Stuck k i) = phrase (codes "stuck") (decimal k ∷ decimal i ∷ []) ++ 10 ∷ []
 fact_line (Settled k i act settles) =
     phrase (codes "answer") (decimal k ∷ decimal i ∷ plain_act_text act ∷ act_text settles ∷ []) ++ 10 ∷ []
 fact_line (Open x) = phrase (codes "open") (id_text x ∷ []) ++ 10 ∷ []

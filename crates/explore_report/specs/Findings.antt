@@ -1,7 +1,7 @@
 -- The outcomes that were found, each once.
 -- comes tells what a history comes to, hs and ks are histories, h is one of ks, a text is an outcome's lines, told is a
 -- number as it is told, fs are findings.
-use Rattle.std.specs.Prelude.{ℕ, ◌≡◌, ◌≢◌, ◌≤◌, ◌+◌, ◌*◌, ◌%◌, ◌^◌, List, [], ◌∷◌, ◌++◌, length, map, reverse, Contains}
+use Rattle.std.specs.Prelude.{ℕ, ltb, ◌≡◌, ◌≢◌, ◌≤◌, ◌+◌, ◌*◌, ◌%◌, ◌^◌, if◌then◌else◌, List, [], ◌∷◌, ◌++◌, length, map, reverse, Contains}
 use Rattle.std.specs.List.{All, AllPairs}
 use Rattle.law_explore.specs.declared.moves.Move.{Move}
 use Rattle.law_explore.specs.Explores.{Found, IsCounted, told_number}
@@ -47,8 +47,12 @@ pub record ComeTo (comes : List Move → List ℕ) (text : List ℕ) (h : List M
 abbrev pub AreLater : List (List Move) → List (List Move) → Type 0
 AreLater hs ks = All (λ (h : List Move). All (λ (k : List Move). length h ≤ length k) ks) hs
 
--- these histories, which come to the text and are no shorter than those before, are counted too
+-- the outcome shows the one of these two that has fewer moves, or as it did where neither has
+abbrev pub shorter : List Move → List Move → List Move
+shorter h was = if ltb (length h) (length was) then h else was
+
+-- these histories, which come to the text, are counted too
 abbrev pub Counts : List ℕ → List Move → ℕ → List Finding → List Finding → Type 0
 Counts text h number old new =
-    (comes : List Move → List ℕ) (hs ks : List (List Move)) → ComeTo comes text h number ks → AreLater hs ks →
+    (comes : List Move → List ℕ) (hs ks : List (List Move)) → ComeTo comes text h number ks →
     AreFindings comes hs old → AreFindings comes (hs ++ ks) new

@@ -3,7 +3,7 @@
 ghost use Rattle.std.specs.Prelude.{◌≡◌, ◌∷◌, ◌++◌, OnOk, map, codes, decimal, []};
 ghost use Rattle.chorus_ui.specs.Text.{name_text};
 ghost use Rattle.chorus_show.specs.Phrases.{phrase, spaced, id_text};
-ghost use Rattle.law_explore.specs.Outcome.{Accepted, Answered, Calls, Copied, Holds, Judged, Members, Moving, Next, Open, Settled, Stale, port_fact};
+ghost use Rattle.law_explore.specs.Outcome.{Accepted, Answered, Calls, Copied, Holds, Judged, Members, Moving, Next, Open, Settled, Stale, Stuck, port_fact};
 ghost use Rattle.explore_report.specs.Facts.{waiting_in, plain_act_text, plain_answer_text, fact_line};
 
 use chorus_entry::{Act, Answer, MsgId, PortRecord};
@@ -298,6 +298,17 @@ pub fn push_holds(
     push_number(script, out)?;
     push_number(u64::from(client), out)?;
     push_number(u64::from(number), out)?;
+    out.push(b'\n')?;
+    Ok(())
+}
+
+/// Appends the line of the fact that the script never came to this command, which waits.
+pub fn push_stuck(script: u64, number: u64, out: &mut Vec<u8>) -> Result<(), AllocError>
+    ensures { OnOk result (out.new.items ≡ out.old.items ++ fact_line (Stuck script number)) }
+{
+    out.extend_from_slice(b"stuck")?;
+    push_number(script, out)?;
+    push_number(number, out)?;
     out.push(b'\n')?;
     Ok(())
 }

@@ -1,14 +1,14 @@
 //! The outcomes that were found, each once.
 
-ghost use Rattle.std.specs.Prelude.{◌≡◌, ◌≢◌, ◌<◌, [], length, slice_index_or, true, false, IfSome, OnOk, IsNone, reverse};
+ghost use Rattle.std.specs.Prelude.{◌≡◌, ◌≢◌, ◌<◌, ◌+◌, ◌-◌, ◌^◌, min, [], length, slice_index_or, true, false, IfSome, OnOk, OnErr, IsNone, reverse};
 ghost use Rattle.std.specs.List.{All};
 ghost use Rattle.explore_report.specs.declared.findings.Finding.{Finding};
-ghost use Rattle.explore_report.specs.Findings.{Counts, HaveSums, sum_from};
+ghost use Rattle.explore_report.specs.Findings.{Counts, HaveSums, shorter, sum_from};
 
 use law_explore::Move;
 use std::alloc::{AllocError, Global};
 
-/// An outcome, how many of the histories that were counted come to it, and the first of these.
+/// An outcome, how many of the histories that were counted come to it, and one of these, than which none is shorter.
 #[derive(Drop)]
 pub struct Finding {
     /// The lines of its facts.
@@ -17,7 +17,7 @@ pub struct Finding {
     sum: u64,
     /// How many of the histories that were counted come to it; 2^64 - 1 where they are more.
     pub histories: u64,
-    /// The first history that came to it, its moves in order.
+    /// The first history that came to it of those that have the fewest moves, its moves in order.
     pub moves: Vec<Move>,
 }
 
@@ -33,6 +33,23 @@ impl Finding {
             return false;
         }
         self.text.as_slice() == text
+    }
+
+    /// Counts so many histories more that come to the outcome, one of them these moves in order. An error, want of memory, leaves
+    /// the outcome as it was.
+    fn count(&mut self, alloc: Global, moves: &[Move], number: u64) -> Result<(), AllocError>
+        ensures text { (self.new.text ≡ self.old.text) × (self.new.sum ≡ self.old.sum) }
+        ensures histories { OnOk result
+            (self.new.histories ≡ min (self.old.histories + number) (2 ^ 64 - 1)) }
+        ensures moves { OnOk result (reverse self.new.moves.items
+            ≡ shorter (reverse moves.now) (reverse self.old.moves.items)) }
+        ensures kept { OnErr result (self.new ≡ self.old) }
+    {
+        if moves.len() < self.moves.len() {
+            self.moves = Vec::from_slice(alloc, moves)?;
+        }
+        self.histories = self.histories.saturating_add(number);
+        Ok(())
     }
 }
 
@@ -70,8 +87,7 @@ impl Findings {
         let sum = sum_of(&text);
         match self.position(&text, sum) {
             Some(index) => {
-                let finding = &mut self.items[index];
-                finding.histories = finding.histories.saturating_add(number);
+                self.items[index].count(alloc, moves, number)?;
             }
             None => {
                 let moves = Vec::from_slice(alloc, moves)?;

@@ -1,6 +1,6 @@
 //! What a search over the schedules of a race found, and the text that tells it: the lines of what a schedule came to, and each
 //! outcome once. The lines say how each command was answered, which verdict each message and copy got, which of them were told
-//! `stale`, and what each port holds.
+//! `stale`, what each port holds, and where a script is stuck.
 //!
 //! The layer above rests on this: told from the journals of all places and from the ports that are held, the lines are those of the
 //! facts of `law_explore`, without the numbers that only tell when. [`Findings`] has each outcome once, with how many histories come
@@ -25,7 +25,7 @@ mod text;
 pub use explored::Explored;
 pub use facts::{
     push_accepted, push_answered, push_calls, push_copied, push_held, push_holds, push_judged,
-    push_members, push_moving, push_next, push_open, push_settled, push_stale,
+    push_members, push_moving, push_next, push_open, push_settled, push_stale, push_stuck,
 };
 pub use findings::{Finding, Findings};
 pub use judgements::{Judgement, have_all_failed, judge_all, not_yet_judged, want_moments};

@@ -8,7 +8,6 @@ use Rattle.std.proofs.lemmas.Bool.{false≢true, and_parts, leb-true}
 use Rattle.chorus_ui.specs.declared.ui.Ui.{Ui}
 use Rattle.chorus_ui.specs.declared.layout.Layout.{Layout}
 use Rattle.chorus_ui.specs.Layout.{places, has_place}
-use Rattle.chorus_entry.specs.declared.command.Command.{Command}
 use Rattle.chorus_calls.specs.Callers.{Seated, new_caller}
 use Rattle.law_machine.specs.PlaceState.{PlaceState}
 use Rattle.law_network.specs.Calls.{first_actor}
@@ -19,13 +18,13 @@ use Rattle.law_explore.specs.Neighbours.{are_apart, command_place}
 use Rattle.law_explore.specs.Search.{IsHistory, IsNormal, fits, state_after}
 use Rattle.law_explore.specs.declared.moves.Move.{Move}
 use Rattle.law_explore.specs.declared.moves.Move.TheVariants.{Go, Carry}
-use Rattle.law_explore.specs.Races.{Race, Position, next_of, are_linked, event_of, is_ready_by, are_apart_by, are_neighbours, is_less, racing, seat_0, are_of_one_script, place_with, place_of_move, may_come, meet_nowhere, replaying, all_moves, next_moves, IsRace}
-use Rattle.law_explore.specs.Outcome.{outcome_of}
+use Rattle.law_explore.specs.Races.{Race, Order, Position, next_of, are_linked, event_of, may_now, may_come_by, is_ready_by, are_apart_by, are_neighbours, is_less, racing, seat_0, are_of_one_script, place_with, place_of_move, may_come, meet_nowhere, replaying, all_moves, next_moves, IsRace}
+use Rattle.law_explore.specs.Outcome.{outcome_of, outcome_with}
 use Rattle.law_explore.specs.Laws.{RacesAlike, NormalsComeToAll}
 use Rattle.law_explore.proofs.Races.{races_need_normals_only}
 use Rattle.law_explore.proofs.Alike.{keep_acts}
 use Rattle.law_explore.proofs.Telling.{acts-tell, outcomes}
-use Rattle.law_explore.proofs.Replays.{alike-after, Stays, follows, SameTold, grow-same}
+use Rattle.law_explore.proofs.Replays.{alike-after, Stays, follows, SameTold, grow-same, short}
 
 -- Lists.
 
@@ -94,7 +93,7 @@ module _ (r : Race) (race : IsRace r) where
   abbrev pub carried : Race
   carried = record { net = record r.net { callers = r.net.callers ++ crew (places l) }; scripts = r.scripts }
 
-  carrier-high : (b k : ℕ) → k ≤ length r.scripts → carrier b ≡ k → ⊥
+  pub carrier-high : (b k : ℕ) → k ≤ length r.scripts → carrier b ≡ k → ⊥
   carrier-high b k le e = far (length r.net.callers) (row (places l) b) (length r.scripts) k race.seats le e
     where
       far : (n x m k : ℕ) → m < n → k ≤ m → n + x ≡ k → ⊥
@@ -177,9 +176,9 @@ module _ (r : Race) (race : IsRace r) where
 
   -- Positions that the same moves come to.
   module _ (s t : Position) (there : Stays r carried seat_0 carrier to-carried s t) (back : Stays carried r carrier seat_0 from-carried t s) where
-    pub same-ready : (m : Move) → may_come l m s ≡ is_ready_by (event_of l carrier m t.left) t.net
+    pub same-ready : (m : Move) → may_come l m s ≡ may_come_by l carrier m t
     same-ready m =
-        same-Bool (may_come l m s) (is_ready_by (event_of l carrier m t.left) t.net)
+        same-Bool (may_come l m s) (may_come_by l carrier m t)
         (λ h. (follows ActAlike keep_acts SameTold grow-same l (length r.scripts) seat_0 carrier to-carried.behind s t there m h).0)
         (λ h. (follows ActAlike keep_acts SameTold grow-same l (length r.scripts) carrier seat_0 from-carried.behind t s back m h).0)
 
@@ -192,23 +191,18 @@ module _ (r : Race) (race : IsRace r) where
         by (Some w) None a = absurd a
         by (Some w) (Some v) a = ap (λ (u : Seated). Some u.actor) (sym a.is)
 
-    goes : (i : ℕ) → may_come l (Go i) s ≡ true → (c : Command) × ((next_of (slice_get s.left i) ≡ Some c) × (suc i ≤ length r.scripts))
+    goes : (i : ℕ) → may_come l (Go i) s ≡ true → (o : Order) × ((next_of (slice_get s.left i) ≡ Some o) × (suc i ≤ length r.scripts))
     goes i h = by (next_of (slice_get s.left i)) refl h
       where
-        inside : (left : List (List Command)) (j : ℕ) (c : Command) → next_of (slice_get left j) ≡ Some c → suc j ≤ length left
-        inside [] j c e = absurd (cc)
-        inside (cs ∷ left) zero c e = omega arith
-        inside (cs ∷ left) (suc j) c e = let le = inside left j c e in omega (arith, le)
-
-        by : (o : Option Command) → next_of (slice_get s.left i) ≡ o → is_ready_by (option_map (λ (c : Command). Act (suc i) c) o) s.net ≡ true
-            → (c : Command) × ((next_of (slice_get s.left i) ≡ Some c) × (suc i ≤ length r.scripts))
+        by : (o : Option Order) → next_of (slice_get s.left i) ≡ o → is_ready_by (option_map (λ (x : Order). Act (suc i) x.command) o) s.net && may_now o i s.net ≡ true
+            → (p : Order) × ((next_of (slice_get s.left i) ≡ Some p) × (suc i ≤ length r.scripts))
         by None e k = absurd (false≢true k)
-        by (Some c) e k = (c, (e, subst (λ n. suc i ≤ n) there.all (inside s.left i c e)))
+        by (Some o) e k = (o, (e, subst (λ n. suc i ≤ n) there.all (short s.left i o e)))
 
     linked : (a b : ℕ) → may_come l (Carry a b) s ≡ true → are_linked l a b ≡ true
     linked a b h = by (are_linked l a b) h
       where
-        by : (x : Bool) → is_ready_by (cond x (Some (Deliver 0 a b)) None) s.net ≡ true → x ≡ true
+        by : (x : Bool) → is_ready_by (cond x (Some (Deliver 0 a b)) None) s.net && true ≡ true → x ≡ true
         by true k = refl
         by false k = absurd (false≢true k)
 
@@ -222,18 +216,18 @@ module _ (r : Race) (race : IsRace r) where
     abbrev far : ℕ → ℕ → ℕ → ℕ → Bool
     far k p j q = not (k == j) && not (p == q)
 
-    script-event : (i : ℕ) (c : Command) → next_of (slice_get s.left i) ≡ Some c → event_of l carrier (Go i) t.left ≡ Some (Act (suc i) c)
-    script-event i c e =
-        ap (λ (left : List (List Command)). option_map (λ (d : Command). Act (suc i) d) (next_of (slice_get left i))) there.left
-        ∙ ap (option_map (λ (d : Command). Act (suc i) d)) e
+    script-event : (i : ℕ) (o : Order) → next_of (slice_get s.left i) ≡ Some o → event_of l carrier (Go i) t.left ≡ Some (Act (suc i) o.command)
+    script-event i o e =
+        ap (λ (left : List (List Order)). option_map (λ (x : Order). Act (suc i) x.command) (next_of (slice_get left i))) there.left
+        ∙ ap (option_map (λ (x : Order). Act (suc i) x.command)) e
 
     link-event : (a b : ℕ) → are_linked l a b ≡ true → event_of l carrier (Carry a b) t.left ≡ Some (Deliver (carrier b) a b)
     link-event a b e = ap (λ x. cond x (Some (Deliver (carrier b) a b)) None) e
 
-    script-place : (i : ℕ) (c : Command) → next_of (slice_get s.left i) ≡ Some c → suc i ≤ length r.scripts → place_of_move (Go i) s ≡ command_place t.net.layout c (actor_of t.net (suc i))
-    script-place i c e high =
-        ap (λ (o : Option Command). place_with o i s.net) e
-        ∙ ap₂ (λ (k : Layout) (o : Option Ui). command_place k c o) (sym there.nets.layout) (same-actor (suc i) (omega arith) high)
+    script-place : (i : ℕ) (o : Order) → next_of (slice_get s.left i) ≡ Some o → suc i ≤ length r.scripts → place_of_move (Go i) s ≡ command_place t.net.layout o.command (actor_of t.net (suc i))
+    script-place i o e high =
+        ap (λ (x : Option Order). place_with x i s.net) e
+        ∙ ap₂ (λ (k : Layout) (a : Option Ui). command_place k o.command a) (sym there.nets.layout) (same-actor (suc i) (omega arith) high)
 
     both : (m o : Move) (e f : Event) → event_of l carrier m t.left ≡ Some e → event_of l carrier o t.left ≡ Some f
         → are_apart_by (event_of l carrier m t.left) (event_of l carrier o t.left) t.net ≡ are_apart t.net.layout (actor_of t.net) e f
@@ -254,18 +248,18 @@ module _ (r : Race) (race : IsRace r) where
         let x = goes i h in
         let z = goes j k in
         ap₂ (λ u w. not (i == j) && not (u == w)) (script-place i x.0 x.1.0 x.1.1) (script-place j z.0 z.1.0 z.1.1)
-        ∙ ap (λ u. not u && not (command_place t.net.layout x.0 (actor_of t.net (suc i)) == command_place t.net.layout z.0 (actor_of t.net (suc j)))) (suc-same i j)
-        ∙ sym (both (Go i) (Go j) (Act (suc i) x.0) (Act (suc j) z.0) (script-event i x.0 x.1.0) (script-event j z.0 z.1.0))
+        ∙ ap (λ u. not u && not (command_place t.net.layout x.0.command (actor_of t.net (suc i)) == command_place t.net.layout z.0.command (actor_of t.net (suc j)))) (suc-same i j)
+        ∙ sym (both (Go i) (Go j) (Act (suc i) x.0.command) (Act (suc j) z.0.command) (script-event i x.0 x.1.0) (script-event j z.0 z.1.0))
     same-far (Go i) (Carry a b) h k =
         let x = goes i h in
         ap (λ u. not false && not (u == b)) (script-place i x.0 x.1.0 x.1.1)
-        ∙ ap (λ u. not u && not (command_place t.net.layout x.0 (actor_of t.net (suc i)) == b)) (sym (unlike (suc i) (carrier b) (λ e. carrier-high b (suc i) x.1.1 (sym e))))
-        ∙ sym (both (Go i) (Carry a b) (Act (suc i) x.0) (Deliver (carrier b) a b) (script-event i x.0 x.1.0) (link-event a b (linked a b k)))
+        ∙ ap (λ u. not u && not (command_place t.net.layout x.0.command (actor_of t.net (suc i)) == b)) (sym (unlike (suc i) (carrier b) (λ e. carrier-high b (suc i) x.1.1 (sym e))))
+        ∙ sym (both (Go i) (Carry a b) (Act (suc i) x.0.command) (Deliver (carrier b) a b) (script-event i x.0 x.1.0) (link-event a b (linked a b k)))
     same-far (Carry a b) (Go j) h k =
         let z = goes j k in
         ap (λ u. not false && not (b == u)) (script-place j z.0 z.1.0 z.1.1)
-        ∙ ap (λ u. not u && not (b == command_place t.net.layout z.0 (actor_of t.net (suc j)))) (sym (unlike (carrier b) (suc j) (λ e. carrier-high b (suc j) z.1.1 e)))
-        ∙ sym (both (Carry a b) (Go j) (Deliver (carrier b) a b) (Act (suc j) z.0) (link-event a b (linked a b h)) (script-event j z.0 z.1.0))
+        ∙ ap (λ u. not u && not (b == command_place t.net.layout z.0.command (actor_of t.net (suc j)))) (sym (unlike (carrier b) (suc j) (λ e. carrier-high b (suc j) z.1.1 e)))
+        ∙ sym (both (Carry a b) (Go j) (Deliver (carrier b) a b) (Act (suc j) z.0.command) (link-event a b (linked a b h)) (script-event j z.0 z.1.0))
     same-far (Carry a b) (Carry c d) h k =
         by (b == d) refl
         ∙ sym (both (Carry a b) (Carry c d) (Deliver (carrier b) a b) (Deliver (carrier d) c d) (link-event a b (linked a b h)) (link-event c d (linked c d k)))
@@ -285,7 +279,7 @@ module _ (r : Race) (race : IsRace r) where
 
     pub same-apart : (m o : Move) → meet_nowhere l m o s ≡ are_neighbours l carrier m o t
     same-apart m o =
-        same-and (may_come l m s) (is_ready_by (event_of l carrier m t.left) t.net) (may_come l o s) (is_ready_by (event_of l carrier o t.left) t.net)
+        same-and (may_come l m s) (may_come_by l carrier m t) (may_come l o s) (may_come_by l carrier o t)
         (not (are_of_one_script m o) && not (place_of_move m s == place_of_move o s)) (are_apart_by (event_of l carrier m t.left) (event_of l carrier o t.left) t.net)
         (same-ready m) (same-ready o) (same-far m o)
 
@@ -309,18 +303,18 @@ module _ (r : Race) (race : IsRace r) where
   to-normal [] h n = tt
   to-normal (m ∷ ms) h n = (same-fits m ms h.1 ∙ n.0, to-normal ms h.1 n.1)
 
-  same-outcome : (ms : List Move) → IsHistory (racing r seat_0) ms → outcome_of (at_0 ms) ≡ outcome_of (at_c ms)
+  same-outcome : (ms : List Move) → IsHistory (racing r seat_0) ms → outcome_of r (at_0 ms) ≡ outcome_of r (at_c ms)
   same-outcome ms h =
       let stay = (there-after ms h).1 in
-      outcomes ActAlike acts-tell (at_0 ms).told (at_0 ms).net.places (at_c ms).net.places stay.nets.places
-      ∙ sym (ap (λ told. outcome_of (record { net = (at_c ms).net; left = (at_c ms).left; told = told })) stay.told)
+      outcomes ActAlike acts-tell r.scripts (at_0 ms).left (at_0 ms).told (at_0 ms).net.places (at_c ms).net.places stay.nets.places
+      ∙ sym (λ i. outcome_with r.scripts (stay.left i) (stay.told i) (at_c ms).net.places)
 
   pub record HasNormalOf (ms : List Move) : Type 0 where
     pub moves : List Move
     pub history : IsHistory (racing r seat_0) moves
     pub normal : IsNormal (replaying r) moves
     pub ends : next_moves r (at_0 moves) ≡ []
-    pub comes : outcome_of (at_0 moves) ≡ outcome_of (at_0 ms)
+    pub comes : outcome_of r (at_0 moves) ≡ outcome_of r (at_0 ms)
     pub as_long : length moves ≡ length ms
 
   pub has-normal : (ms : List Move) → IsHistory (racing r seat_0) ms → next_moves r (at_0 ms) ≡ [] → HasNormalOf ms
@@ -333,7 +327,7 @@ module _ (r : Race) (race : IsRace r) where
       let s = at_0 n.events in
       let ready : (m : Move) → may_come l m s ≡ may_come l m (at_0 ms) =
       λ m. same-ready s (at_c n.events) out.1 home.1 m
-      ∙ ap (λ (p : Position). is_ready_by (event_of l carrier m p.left) p.net) n.same_end
+      ∙ ap (λ (p : Position). may_come_by l carrier m p) n.same_end
       ∙ sym (same-ready (at_0 ms) (at_c ms) there.1 back.1 m) in
       let left : s.left ≡ (at_0 ms).left = sym out.1.left ∙ ap (λ (p : Position). p.left) n.same_end ∙ there.1.left in
       record {
@@ -344,7 +338,7 @@ module _ (r : Race) (race : IsRace r) where
             same-filter (λ (m : Move). may_come l m s) (λ (m : Move). may_come l m (at_0 ms)) (all_moves l s.left) ready
             ∙ ap (λ left. filter (λ (m : Move). may_come l m (at_0 ms)) (all_moves l left)) left
             ∙ end;
-        comes = same-outcome n.events home.0 ∙ ap outcome_of n.same_end ∙ sym (same-outcome ms h);
+        comes = same-outcome n.events home.0 ∙ ap (outcome_of r) n.same_end ∙ sym (same-outcome ms h);
         as_long = n.as_long;
       }
 
@@ -354,6 +348,6 @@ normals-come r ms race whole =
     record {
       moves = n.moves;
       whole = ((to-replaying r race n.moves n.history, ap (next_moves r) (same-state r race n.moves) ∙ n.ends), n.normal);
-      comes = ap outcome_of (same-state r race n.moves) ∙ n.comes ∙ sym (ap outcome_of (same-state r race ms));
+      comes = ap (outcome_of r) (same-state r race n.moves) ∙ n.comes ∙ sym (ap (outcome_of r) (same-state r race ms));
       as_long = n.as_long;
     }

@@ -7,6 +7,7 @@ use Rattle.chorus_ui.specs.declared.layout.Layout.{Layout}
 use Rattle.chorus_entry.specs.declared.act.Act.{Act}
 use Rattle.chorus_entry.specs.declared.act.Act.TheVariants as acts
 use Rattle.chorus_entry.specs.declared.command.Command.{Command}
+use Rattle.chorus_entry.specs.declared.dest.Dest.{Dest}
 use Rattle.chorus_entry.specs.declared.entry.Entry.{Entry}
 use Rattle.chorus_entry.specs.declared.id.MsgId.{MsgId}
 use Rattle.law_network.specs.Calls.{first_actor, just_started}
@@ -16,8 +17,8 @@ use Rattle.law_explore.specs.declared.moves.Move.{Move}
 use Rattle.law_explore.specs.declared.moves.Move.TheVariants.{Go}
 use Rattle.law_explore.specs.Alike.{CallerAlike}
 use Rattle.law_explore.specs.Search.{state_after}
-use Rattle.law_explore.specs.Races.{Race, Told, start_of, next_moves, replaying, IsRace, IsWhole}
-use Rattle.law_explore.specs.Outcome.{Answered, is_stale_at, outcome_after}
+use Rattle.law_explore.specs.Races.{Race, Order, Told, start_of, next_moves, replaying, IsRace, IsWhole}
+use Rattle.law_explore.specs.Outcome.{Answered, Stuck, is_stale_at, outcome_after}
 use Rattle.law_explore.specs.Positions.{TellAlike, ComeAlike}
 use Rattle.law_explore.specs.Levels.{Class, histories_of, level}
 
@@ -27,9 +28,12 @@ one_site = record { sites = 1; turns = 1 }
 abbrev a_port : Ui
 a_port = record { site = 1; kind = kinds.Port; number = 1 }
 
+abbrev at_once : Command → Order
+at_once command = record { command = command; waits = false }
+
 -- one caller, which receives once from a port that is not there
 abbrev alone : Race
-alone = record { net = happened (Enter first_actor 0) (just_started one_site); scripts = (Command.Take a_port ∷ []) ∷ [] }
+alone = record { net = happened (Enter first_actor 0) (just_started one_site); scripts = (at_once (Command.Take a_port) ∷ []) ∷ [] }
 
 pub alone-is : IsRace alone
 alone-is = record { order = tt; seats = omega arith }
@@ -46,6 +50,39 @@ ends = ((refl, tt), refl)
 
 pub comes : outcome_after alone (Go 0 ∷ []) ≡ Answered 1 1 (acts.NotHere a_port) ∷ []
 comes = refl
+
+-- Where it waits at that port, it never comes, and the outcome tells so.
+
+abbrev waiting : Race
+waiting =
+    record {
+      net = alone.net;
+      scripts = (record { command = Command.Take a_port; waits = true } ∷ at_once (Command.Take a_port) ∷ []) ∷ [];
+    }
+
+pub never-comes : IsWhole waiting []
+never-comes = (tt, refl)
+
+pub is-stuck : outcome_after waiting [] ≡ Stuck 1 1 ∷ []
+is-stuck = refl
+
+-- where a message waits it comes: the caller makes a port and posts to it first
+abbrev its_port : Ui
+its_port = record { site = 1; kind = kinds.Port; number = 1 }
+
+abbrev serving : Race
+serving =
+    record {
+      net = alone.net;
+      scripts =
+          (at_once (Command.Make first_actor 1) ∷ at_once (Command.Send (Dest.Port its_port) []) ∷ record { command = Command.Take its_port; waits = true } ∷ []) ∷ [];
+    }
+
+pub comes-then : next_moves serving (state_after (replaying serving) (Go 0 ∷ Go 0 ∷ [])) ≡ Go 0 ∷ []
+comes-then = refl
+
+pub is-done : IsWhole serving (Go 0 ∷ Go 0 ∷ Go 0 ∷ [])
+is-done = ((refl, (refl, (refl, tt))), refl)
 
 -- A journal that tells one copy of a post that it is stale, and no other.
 
@@ -69,7 +106,7 @@ unlike h = false≢true (sym (h.stale (copy 1)))
 -- alike, though the journals differ.
 
 abbrev both : Command → Race
-both command = record { net = happened (Enter first_actor 0) alone.net; scripts = (command ∷ []) ∷ (command ∷ []) ∷ [] }
+both command = record { net = happened (Enter first_actor 0) alone.net; scripts = (at_once command ∷ []) ∷ (at_once command ∷ []) ∷ [] }
 
 abbrev taking : Race
 taking = both (Command.Take a_port)

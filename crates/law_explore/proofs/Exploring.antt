@@ -6,12 +6,11 @@ use Rattle.std.proofs.lemmas.Bool.{false≢true, and_parts, leb-true, cases_Bool
 use Rattle.std.proofs.lemmas.List.Elements.{Contains-append_left, Contains-append_right}
 use Rattle.chorus_ui.specs.declared.layout.Layout.{Layout}
 use Rattle.chorus_ui.specs.Layout.{places, has_place}
-use Rattle.chorus_entry.specs.declared.command.Command.{Command}
 use Rattle.law_network.specs.Network.{Act, Deliver, numbers, place_numbers}
 use Rattle.law_explore.specs.Search.{ListsNext}
 use Rattle.law_explore.specs.declared.moves.Move.{Move}
 use Rattle.law_explore.specs.declared.moves.Move.TheVariants.{Go, Carry}
-use Rattle.law_explore.specs.Races.{Race, Position, next_of, event_of, are_linked, is_ready_by, seat_0, may_come, replaying, links_to, links_between, all_moves, next_moves}
+use Rattle.law_explore.specs.Races.{Race, Order, Position, next_of, event_of, is_now, are_linked, is_ready_by, seat_0, may_come, replaying, links_to, links_between, all_moves, next_moves}
 use Rattle.law_explore.specs.Laws.{RacesAreExplored}
 use Rattle.law_explore.proofs.Searching.{none, here, there, which, finds_all, finds_no_other}
 
@@ -104,21 +103,22 @@ in-places l p h = in-numbers (places l) 1 p low (above p (places l) high)
 
 -- Moves.
 
-some-script : (l : Layout) (left : List (List Command)) (i : ℕ) (s : Position) → is_ready_by (event_of l seat_0 (Go i) left) s.net ≡ true → is_some (slice_get left i) ≡ true
+some-script : (l : Layout) (left : List (List Order)) (i : ℕ) (s : Position) → is_ready_by (event_of l seat_0 (Go i) left) s.net ≡ true → is_some (slice_get left i) ≡ true
 some-script l left i s h = by (slice_get left i) h
   where
-    by : (o : Option (List Command)) → is_ready_by (option_map (λ (c : Command). Act (suc i) c) (next_of o)) s.net ≡ true → is_some o ≡ true
+    by : (o : Option (List Order)) → is_ready_by (option_map (λ (x : Order). Act (suc i) x.command) (next_of o)) s.net ≡ true → is_some o ≡ true
     by None k = absurd (false≢true k)
-    by (Some cs) k = refl
+    by (Some os) k = refl
 
 is-among : (l : Layout) (s : Position) (m : Move) → may_come l m s ≡ true → Contains (all_moves l s.left) m
 is-among l s (Go i) h =
-    let lt = short s.left i (some-script l s.left i s h) in
+    let ready = (and_parts (is_ready_by (event_of l seat_0 (Go i) s.left) s.net) (is_now (Go i) s.left s.net) h).0 in
+    let lt = short s.left i (some-script l s.left i s ready) in
     Contains-append_left (map Go (numbers (length s.left) 0)) (links_between (place_numbers l) (place_numbers l)) (Go i)
     (in-map (numbers (length s.left) 0) i (in-numbers (length s.left) 0 i (omega arith) (omega (arith, lt))))
 is-among l s (Carry a b) h = by (are_linked l a b) refl h
   where
-    by : (x : Bool) → are_linked l a b ≡ x → is_ready_by (cond x (Some (Deliver 0 a b)) None) s.net ≡ true → Contains (all_moves l s.left) (Carry a b)
+    by : (x : Bool) → are_linked l a b ≡ x → is_ready_by (cond x (Some (Deliver 0 a b)) None) s.net && true ≡ true → Contains (all_moves l s.left) (Carry a b)
     by false e k = absurd (false≢true k)
     by true e k =
         let one = and_parts (has_place l a && has_place l b) (not (a == b)) e in

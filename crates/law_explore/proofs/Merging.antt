@@ -3,10 +3,9 @@
 use Rattle.std.proofs.Common.{ℕ, ◌≡◌, true, List, [], ◌∷◌, ◌++◌, length, slice_get, refl, sym, ◌∙◌, ap}
 use Rattle.std.specs.List.{filter}
 use Rattle.chorus_ui.specs.declared.layout.Layout.{Layout}
-use Rattle.chorus_entry.specs.declared.command.Command.{Command}
 use Rattle.law_explore.specs.Search.{state_after, IsHistory}
 use Rattle.law_explore.specs.declared.moves.Move.{Move}
-use Rattle.law_explore.specs.Races.{Race, Position, Told, seat_0, may_come, replaying, all_moves, next_moves, IsRace}
+use Rattle.law_explore.specs.Races.{Race, Order, Position, Told, seat_0, may_come, replaying, all_moves, next_moves, IsRace}
 use Rattle.law_explore.specs.Positions.{AskAlike}
 use Rattle.law_explore.specs.Merging.{Telling, TellsOn, AreToldAlike, ComeToldAlike, ToldAlikeGoOn, ToldAlikeIsAnEquivalence, PlacesTellTheSame}
 use Rattle.law_explore.proofs.Carriers.{same-filter, same-Bool}
@@ -89,7 +88,7 @@ module _ (tells : Telling) where
         let back = turned-told (length r.scripts) (at ms) (at os) alike in
         same-filter (λ (m : Move). may_come l m (at os)) (λ (m : Move). may_come l m (at ms)) (all_moves l (at os).left)
         (λ m. same-Bool (may_come l m (at os)) (may_come l m (at ms)) (λ may. (told-more os ms m h back may).0) (λ may. (told-more ms os m k alike may).0))
-        ∙ ap (λ (left : List (List Command)). filter (λ (m : Move). may_come l m (at ms)) (all_moves l left)) alike.left
+        ∙ ap (λ (left : List (List Order)). filter (λ (m : Move). may_come l m (at ms)) (all_moves l left)) alike.left
 
 pub told-alike-go-on : ToldAlikeGoOn
 told-alike-go-on tells r ms os more on race is_ms is_os alike h =
@@ -105,4 +104,4 @@ told-alike-is-an-equivalence tells count =
     record { itself = itself-told tells count; turned = turned-told tells count; joined = joined-told tells count }
 
 pub places-tell-the-same : PlacesTellTheSame
-places-tell-the-same asks told ss rs h = outcomes (AskAlike asks) (λ j k x. x.tells) told ss rs h
+places-tell-the-same asks scripts left told ss rs h = outcomes (AskAlike asks) (λ j k x. x.tells) scripts left told ss rs h

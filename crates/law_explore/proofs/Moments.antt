@@ -1,23 +1,21 @@
 -- Of a moment the same is told of networks that are alike, where claims are asked.
 -- n and m are networks, ss and rs are places, x is an id, q a port, os and ps are packets, k is the number of a seat.
-use Rattle.std.proofs.Common.{ℕ, zero, suc, ◌≡◌, ◌+◌, ◌≤◌, Bool, true, List, [], ◌∷◌, ◌++◌, length, map, Option, Some, None, slice_get, refl, sym, ◌∙◌, ap, ap₂, subst, arith}
+use Rattle.std.proofs.Common.{ℕ, zero, suc, ◌≡◌, ◌+◌, ◌≤◌, true, List, [], ◌∷◌, ◌++◌, length, map, Option, Some, None, slice_get, refl, sym, ◌∙◌, ap, ap₂, arith}
 use Rattle.std.specs.List.{flat_map, filter_map}
-use Rattle.std.specs.Option.{option_map, option_or}
+use Rattle.std.specs.Option.{option_map}
 use Rattle.chorus_ui.specs.declared.ui.Ui.{Ui}
 use Rattle.chorus_entry.specs.declared.answer.Answer.{Answer}
-use Rattle.chorus_entry.specs.declared.command.Command.{Command}
 use Rattle.chorus_entry.specs.declared.entry.Entry.{Entry}
 use Rattle.chorus_entry.specs.declared.id.MsgId.{MsgId}
 use Rattle.chorus_world.specs.Groups.{groups_made, members}
 use Rattle.chorus_calls.specs.Callers.{Seated}
 use Rattle.law_machine.specs.declared.outgoing.Outgoing.{Outgoing}
 use Rattle.law_machine.specs.PlaceState.{PlaceState}
-use Rattle.law_network.specs.Network.{NetState, numbers}
-use Rattle.law_explore.specs.Alike.{CallerAlike, PlaceAlike, PlacesAlike, NetsAlike, unclocked}
-use Rattle.law_explore.specs.Races.{Told}
-use Rattle.law_explore.specs.Outcome.{Fact, Judged, Open, Copied, Accepted, Members, plain_answer, posts_in, verdict_in, copies_in, is_stale_in, stale_facts, made_at, held_in, port_fact, port_facts}
-use Rattle.law_explore.specs.Moment.{settled_facts, judged_or_open, facts_of, sent_by, sent_in, copy_facts, post_facts, accepts_by, accepts_in, in_order, accept_facts, moving_in, moving_facts, group_at, member_facts, call_facts, hand_facts, caller_facts, next_facts, place_facts, script_facts, moment_with}
-use Rattle.law_explore.specs.Positions.{OrderAlike, AskAlike}
+use Rattle.law_network.specs.Network.{numbers}
+use Rattle.law_explore.specs.Alike.{CallerAlike, PlaceAlike, PlacesAlike, unclocked}
+use Rattle.law_explore.specs.Outcome.{Fact, Judged, Open, Copied, Accepted, Members, plain_answer, posts_in, verdict_in, copies_in, is_stale_in, stale_facts, port_fact, port_facts}
+use Rattle.law_explore.specs.Moment.{settled_facts, judged_or_open, facts_of, sent_by, sent_in, copy_facts, post_facts, accepts_by, accepts_in, in_order, accept_facts, moving_in, moving_facts, group_at, member_facts, call_facts, hand_facts, caller_facts, next_facts, place_facts}
+use Rattle.law_explore.specs.Positions.{AskAlike}
 use Rattle.law_explore.specs.Merging.{NetsTellTheSame}
 use Rattle.law_explore.proofs.Telling.{places-verdict, places-copies, places-stale, places-made, places-held}
 
@@ -134,4 +132,4 @@ pub nets-tell-the-same : NetsTellTheSame
 nets-tell-the-same scripts left told n m h =
     λ i. settled_facts 1 told ++ flat-same (post_facts n.places) (post_facts m.places) (post-same n.places m.places h.places) (posts_in told) i ++ places-same n.places m.places h.places i
     ++ moving-same n.packets m.packets h.packets i ++ groups-same n.places m.places h.places i
-    ++ (callers-same (length scripts) n.callers m.callers h.callers i ++ next_facts 1 scripts left)
+    ++ (callers-same (length scripts) n.callers m.callers h.callers i ++ next_facts scripts left)

@@ -6,12 +6,11 @@ use Rattle.std.proofs.lemmas.List.Elements.{All-nil, All-cons, Contains-append_c
 use Rattle.std.proofs.lemmas.List.Kept.{AllPairs-cons}
 use Rattle.chorus_ui.specs.declared.layout.Layout.{Layout}
 use Rattle.chorus_ui.specs.Layout.{places}
-use Rattle.chorus_entry.specs.declared.command.Command.{Command}
 use Rattle.law_network.specs.Network.{numbers, place_numbers}
 use Rattle.law_explore.specs.declared.moves.Move.{Move}
 use Rattle.law_explore.specs.declared.moves.Move.TheVariants.{Go, Carry}
 use Rattle.law_explore.specs.Search.{state_after}
-use Rattle.law_explore.specs.Races.{Race, may_come, replaying, links_to, links_between, all_moves}
+use Rattle.law_explore.specs.Races.{Race, Order, may_come, replaying, links_to, links_between, all_moves}
 use Rattle.law_explore.specs.Positions.{next_behind}
 use Rattle.law_explore.specs.Levels.{histories_of, HistoriesAreListed}
 use Rattle.law_explore.proofs.Searching.{none, here, there, which, of-flat}
@@ -129,7 +128,7 @@ once-links as_ bs h k =
     let z = of-map (Carry c) bs m j in
     same-from a x.0 c z.0 (x.1.1 ∙ sym z.1.1))
 
-once-moves : (l : Layout) (left : List (List Command)) → Once (all_moves l left)
+once-moves : (l : Layout) (left : List (List Order)) → Once (all_moves l left)
 once-moves l left =
     subst (λ (ms : List Move). Once (map Go (numbers (length left) 0) ++ ms)) (sym (all-links-are (place_numbers l) (place_numbers l)))
     (once-append (map Go (numbers (length left) 0)) (flat_map (λ (a : ℕ). map (Carry a) (place_numbers l)) (place_numbers l))

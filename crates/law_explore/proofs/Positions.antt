@@ -2,9 +2,8 @@
 -- r is a race, s, t and u are positions, m is a move, ms, os and more are moves.
 use Rattle.std.proofs.Common.{ℕ, ◌≡◌, ◌<◌, ◌≤◌, Bool, true, List, [], ◌∷◌, ◌++◌, length, Option, Some, None, is_some, slice_get, refl, sym, ◌∙◌, ap, subst, arith}
 use Rattle.std.specs.List.{filter}
-use Rattle.std.proofs.lemmas.Bool.{false≢true}
+use Rattle.std.proofs.lemmas.Bool.{false≢true, and_parts}
 use Rattle.chorus_ui.specs.declared.layout.Layout.{Layout}
-use Rattle.chorus_entry.specs.declared.command.Command.{Command}
 use Rattle.chorus_entry.specs.declared.entry.Entry.{Entry}
 use Rattle.chorus_calls.specs.Callers.{Seated}
 use Rattle.law_machine.specs.PlaceState.{PlaceState}
@@ -12,7 +11,8 @@ use Rattle.law_network.specs.Network.{Event}
 use Rattle.law_explore.specs.Alike.{ReadAlike, CallerAlike, PlaceAlike, PlacesAlike}
 use Rattle.law_explore.specs.Search.{state_after, IsHistory}
 use Rattle.law_explore.specs.declared.moves.Move.{Move}
-use Rattle.law_explore.specs.Races.{Race, Position, event_of, position_after, is_ready_by, seat_0, may_come, replaying, all_moves, next_moves, IsRace}
+use Rattle.law_explore.specs.Races.{Race, Order, Position, event_of, is_now, position_after, is_ready_by, seat_0, may_come, replaying, all_moves, next_moves, IsRace}
+use Rattle.law_explore.specs.Outcome.{outcome_with}
 use Rattle.law_explore.specs.Positions.{TellAlike, OrderAlike, AskAlike, PositionsAlike, ComeAlike}
 use Rattle.law_explore.specs.Laws.{AlikePositionsComeToTheSame, AlikeIsAnEquivalence}
 use Rattle.law_explore.proofs.Carriers.{some-inside, same-filter, same-Bool}
@@ -224,7 +224,9 @@ module _ (r : Race) (race : IsRace r) where
 
   pub there : (ms : List Move) → IsHistory (replaying r) ms → is_some (slice_get (at ms).net.callers 0) ≡ true
   there [] h = some-inside r.net.callers 0 (first (length r.scripts) (length r.net.callers) race.seats)
-  there (m ∷ ms) h = there-by (event_of l seat_0 m (at ms).left) m (at ms) h.0 (there ms h.1)
+  there (m ∷ ms) h =
+      let ready = (and_parts (is_ready_by (event_of l seat_0 m (at ms).left) (at ms).net) (is_now m (at ms).left (at ms).net) h.0).0 in
+      there-by (event_of l seat_0 m (at ms).left) m (at ms) ready (there ms h.1)
 
   pub not-scripted : (b k : ℕ) → 1 ≤ k → k ≤ length r.scripts → (0 ≡ k → ⊥) × (0 ≡ k → ⊥)
   not-scripted b k low high = (not-0 k low, not-0 k low)
@@ -255,7 +257,7 @@ module _ (r : Race) (race : IsRace r) where
       let back = turned (length r.scripts) (at ms) (at os) alike in
       same-filter (λ (m : Move). may_come l m (at os)) (λ (m : Move). may_come l m (at ms)) (all_moves l (at os).left)
       (λ m. same-Bool (may_come l m (at os)) (may_come l m (at ms)) (λ may. (one-more os ms m h back may).0) (λ may. (one-more ms os m k alike may).0))
-      ∙ ap (λ (left : List (List Command)). filter (λ (m : Move). may_come l m (at ms)) (all_moves l left)) alike.left
+      ∙ ap (λ (left : List (List Order)). filter (λ (m : Move). may_come l m (at ms)) (all_moves l left)) alike.left
 
 pub alike-come : AlikePositionsComeToTheSame
 alike-come r ms os more race history alike h =
@@ -265,6 +267,9 @@ alike-come r ms os more race history alike h =
     record {
       may = on.0;
       alike = on.1;
-      comes = outcome-same t.told s.told t.net.places (sym on.1.told) ∙ sym (outcomes TellAlike (λ j k x. x) s.told s.net.places t.net.places on.1.nets.places);
+      comes =
+          outcome-same r.scripts t.left t.told s.told t.net.places (sym on.1.told)
+          ∙ sym (outcomes TellAlike (λ j k x. x) r.scripts t.left s.told s.net.places t.net.places on.1.nets.places)
+          ∙ ap (λ (left : List (List Order)). outcome_with r.scripts left s.told s.net.places) on.1.left;
       next = same-next r race (more ++ ms) (more ++ os) h on.0 on.1;
     }

@@ -1,26 +1,28 @@
--- Nothing new comes behind a move where nothing new came behind it and a neighbour.
+-- Nothing new comes behind a move where nothing new came behind it and a neighbour, if the command behind it does not wait.
 -- s is a position, m and o are neighbours there, x is a move; e, f and g are their events.
-use Rattle.std.proofs.Common.{ℕ, suc, ◌≡◌, ◌≢◌, ◌==◌, Bool, true, false, ◌&&◌, not, cond, List, [], ◌∷◌, Option, Some, None, is_some, slice_get, ◌⊎◌, inl, inr, refl, sym, ◌∙◌, ap, ap₂, arith}
+use Rattle.std.proofs.Common.{ℕ, zero, suc, ◌≡◌, ◌≢◌, ◌≤◌, ◌==◌, Bool, true, false, ◌&&◌, ◌||◌, not, cond, List, [], ◌∷◌, length, Option, Some, None, is_some, slice_get, slice_set, ◌⊎◌, inl, inr, refl, sym, ◌∙◌, ap, ap₂, subst, arith}
 use Rattle.std.specs.Option.{option_map}
-use Rattle.std.proofs.lemmas.Bool.{false≢true, and_parts, and_from, eqb-true, eqb-false, cases_Bool}
+use Rattle.std.proofs.lemmas.Bool.{false≢true, and_parts, and_from, eqb-true, eqb-false, ne_eqb, cases_Bool}
 use Rattle.chorus_ui.specs.declared.layout.Layout.{Layout}
 use Rattle.chorus_entry.specs.declared.command.Command.{Command}
 use Rattle.law_machine.specs.declared.outgoing.Outgoing.{Outgoing}
 use Rattle.law_network.specs.Packets.{is_link, AreByLink, first_on, rest_on}
 use Rattle.law_network.specs.Network.{NetState, Event, Act, Deliver, happened}
 use Rattle.law_network.specs.Stands.{actor_of}
-use Rattle.law_explore.specs.Neighbours.{seat_of, place_of, has_packet, is_ready, AreNeighbours}
+use Rattle.law_network.proofs.Standing.CallerList.{get-other}
+use Rattle.law_awaits.specs.Awaits.{would_take}
+use Rattle.law_explore.specs.Neighbours.{seat_of, place_of, are_apart, has_packet, is_ready, AreNeighbours}
 use Rattle.law_explore.specs.Search.{Commutes, IsHistory, state_after}
 use Rattle.law_explore.specs.declared.moves.Move.{Move}
 use Rattle.law_explore.specs.declared.moves.Move.TheVariants.{Go, Carry}
-use Rattle.law_explore.specs.Races.{Race, Position, next_of, behind_next, are_linked, event_of, scripts_after, position_after, is_ready_by, are_neighbours, racing, seat_0, are_of_one_script, place_of_move, may_come, meet_nowhere, replaying, IsRace}
-use Rattle.law_explore.specs.Quiet.{IsQuiet, NeighboursStayQuiet}
+use Rattle.law_explore.specs.Races.{Race, Order, Position, next_of, behind_next, are_linked, event_of, may_now, is_now, may_come_by, scripts_after, position_after, own_of, answers_after, is_ready_by, are_neighbours, racing, seat_0, are_of_one_script, place_of_move, may_come, meet_nowhere, replaying, IsRace}
+use Rattle.law_explore.specs.Quiet.{waits_if, waits_behind, IsQuiet, NeighboursStayQuiet}
 use Rattle.law_explore.proofs.Lists.{list-other}
-use Rattle.law_explore.proofs.Neighbours.{rest_of, order-rest, off, some-put}
+use Rattle.law_explore.proofs.Neighbours.{rest_of, order-rest, off, some-put, own-stays, stay}
 use Rattle.law_explore.proofs.Normals.{keeps}
-use Rattle.law_explore.proofs.Races.{turn, is, ready-before, some-same, turned, Both, both, races-commute}
-use Rattle.law_explore.proofs.Replays.{stays-there}
-use Rattle.law_explore.proofs.Carriers.{carrier, carried, same-state, to-racing, same-ready, same-apart, there-after, back-after}
+use Rattle.law_explore.proofs.Races.{turn, is, stays-ordered, same-place, ready-before, seat_by, some-same, flip, turned, Both, both, stepped, seat-is, next-past, now-past, now-same, seats-differ, turned-both, two-steps, races-commute}
+use Rattle.law_explore.proofs.Replays.{Stays, stays-there, short}
+use Rattle.law_explore.proofs.Carriers.{carrier, carrier-high, carried, to-carried, same-state, to-racing, same-ready, same-apart, there-after, back-after}
 
 -- Moves are one, or not.
 
@@ -67,14 +69,14 @@ rest-keeps a b c d (u ∷ us) n h = by (is_link a b u) (is_link c d u) refl refl
 module _ (l : Layout) (who : ℕ → ℕ) where
   -- The events of moves.
 
-  is-act : (i : ℕ) (left : List (List Command)) (e : Event) → event_of l who (Go i) left ≡ Some e → (c : Command) × (e ≡ Act (suc i) c)
+  is-act : (i : ℕ) (left : List (List Order)) (e : Event) → event_of l who (Go i) left ≡ Some e → (c : Command) × (e ≡ Act (suc i) c)
   is-act i left e h = by (next_of (slice_get left i)) h
     where
-      by : (o : Option Command) → option_map (λ (c : Command). Act (suc i) c) o ≡ Some e → (c : Command) × (e ≡ Act (suc i) c)
+      by : (o : Option Order) → option_map (λ (x : Order). Act (suc i) x.command) o ≡ Some e → (c : Command) × (e ≡ Act (suc i) c)
       by None k = absurd (cc)
-      by (Some c) k = (c, sym (some-same (Act (suc i) c) e k))
+      by (Some o) k = (o.command, sym (some-same (Act (suc i) o.command) e k))
 
-  is-deliver : (a b : ℕ) (left : List (List Command)) (e : Event) → event_of l who (Carry a b) left ≡ Some e → e ≡ Deliver (who b) a b
+  is-deliver : (a b : ℕ) (left : List (List Order)) (e : Event) → event_of l who (Carry a b) left ≡ Some e → e ≡ Deliver (who b) a b
   is-deliver a b left e h = by (are_linked l a b) h
     where
       by : (x : Bool) → cond x (Some (Deliver (who b) a b)) None ≡ Some e → e ≡ Deliver (who b) a b
@@ -82,15 +84,15 @@ module _ (l : Layout) (who : ℕ → ℕ) where
       by false k = absurd (cc)
 
   -- another move leaves the event of a move
-  event-past : (x o : Move) (left : List (List Command)) → x ≢ o → event_of l who x (scripts_after o left) ≡ event_of l who x left
+  event-past : (x o : Move) (left : List (List Order)) → x ≢ o → event_of l who x (scripts_after o left) ≡ event_of l who x left
   event-past (Go i) (Go j) left n =
-      ap (λ (z : Option (List Command)). option_map (λ (c : Command). Act (suc i) c) (next_of z))
+      ap (λ (z : Option (List Order)). option_map (λ (y : Order). Act (suc i) y.command) (next_of z))
       (list-other left j i (behind_next (slice_get left j)) (λ e. n (ap Go (sym e))))
   event-past (Go i) (Carry c d) left n = refl
   event-past (Carry a b) o left n = refl
 
   -- and its packet
-  packet-past : (x o : Move) (left kept : List (List Command)) (e f : Event) (us : List Outgoing) → x ≢ o → event_of l who x left ≡ Some e → event_of l who o kept ≡ Some f → has_packet e us ≡ true
+  packet-past : (x o : Move) (left kept : List (List Order)) (e f : Event) (us : List Outgoing) → x ≢ o → event_of l who x left ≡ Some e → event_of l who o kept ≡ Some f → has_packet e us ≡ true
       → has_packet e (rest_of f us) ≡ true
   packet-past (Go i) o left kept e f us n i-is o-is some = (let a = is-act i left e i-is in ap (λ z. has_packet z (rest_of f us)) a.1)
   packet-past (Carry a b) (Go j) left kept e f us n x-is o-is some = (let c = is-act j kept f o-is in ap (λ z. has_packet e (rest_of z us)) c.1 ∙ some)
@@ -166,27 +168,182 @@ module _ (l : Layout) (who : ℕ → ℕ) where
     back-ready : x ≢ m → x ≢ o → ready x (step m s) ≡ true → ready x (step o s) ≡ true → ready x s ≡ true
     back-ready nm n k j = by-event (event_of l who x s.left) (past m b.e b.one nm k) (past o b.f b.other n j)
 
+-- Waiting.
+
+caller-before : (e : Event) (n : NetState) (k : ℕ) → is_ready e n ≡ true → is_some (slice_get (happened e n).callers k) ≡ true → is_some (slice_get n.callers k) ≡ true
+caller-before e n k ready some =
+    elim (cases_Bool (seat_of e == k)) [
+      | inl here ↦
+          (ap (λ j. is_some (slice_get n.callers j)) (sym (eqb-true (seat_of e) k here))
+          ∙ (and_parts (is_some (slice_get n.callers (seat_of e))) (has_packet e n.packets) ready).0)
+      | inr away ↦
+          (sym (ap is_some (ap (λ (m : NetState). slice_get m.callers k) (is e n ready) ∙ get-other n.callers (seat_of e) k (turn e n ready).caller (eqb-false (seat_of e) k away)))
+          ∙ some)
+    ]
+
+act-before : (i : ℕ) (g e : Event) (n : NetState) → (c : Command) × (g ≡ Act (suc i) c) → is_ready e n ≡ true → is_ready g (happened e n) ≡ true → is_ready g n ≡ true
+act-before i g e n a ready k =
+    ap (λ x. is_ready x n) a.1
+    ∙ and_from (is_some (slice_get n.callers (suc i))) true
+    (caller-before e n (suc i) ready (and_parts (is_some (slice_get (happened e n).callers (suc i))) true (sym (ap (λ x. is_ready x (happened e n)) a.1) ∙ k)).0) refl
+
+-- what stands behind a command, and does not wait, may come whatever the network
+free : (o : Option Order) (j : ℕ) (n : NetState) → waits_if o ≡ false → may_now o j n ≡ true
+free None j n h = refl
+free (Some o) j n h = ap (λ b. not b || would_take (suc j) o.command n) h
+
+wait-free : (left : List (List Order)) (i j : ℕ) (n : NetState) → waits_if (next_of (Some (behind_next (slice_get left i)))) ≡ false
+    → may_now (next_of (slice_get (slice_set left i (behind_next (slice_get left i))) i)) j n ≡ true
+wait-free [] i j n h = refl
+wait-free (os ∷ left) zero j n h = free (next_of (Some (behind_next (Some os)))) j n h
+wait-free (os ∷ left) (suc i) j n h = wait-free left i j n h
+
+behind-now : (m : Move) (left : List (List Order)) (n : NetState) → waits_behind m left ≡ false → is_now m (scripts_after m left) n ≡ true
+behind-now (Go i) left n h = wait-free left i i n h
+behind-now (Carry a b) left n h = refl
+
+module _ (l : Layout) (who : ℕ → ℕ) where
+  some-event : (x : Move) (left : List (List Order)) (n : NetState) → is_ready_by (event_of l who x left) n ≡ true → (g : Event) × ((event_of l who x left ≡ Some g) × (is_ready g n ≡ true))
+  some-event x left n h = by (event_of l who x left) refl h
+    where
+      by : (z : Option Event) → event_of l who x left ≡ z → is_ready_by z n ≡ true → (g : Event) × ((event_of l who x left ≡ Some g) × (is_ready g n ≡ true))
+      by None e k = absurd (false≢true k)
+      by (Some g) e k = (g, (e, k))
+
+  inside : (i : ℕ) (left : List (List Order)) (g : Event) → event_of l who (Go i) left ≡ Some g → suc i ≤ length left
+  inside i left g h = by (next_of (slice_get left i)) refl h
+    where
+      by : (o : Option Order) → next_of (slice_get left i) ≡ o → option_map (λ (x : Order). Act (suc i) x.command) o ≡ Some g → suc i ≤ length left
+      by None e k = absurd (cc)
+      by (Some o) e k = short left i o e
+
+  -- a move at another place, and of another seat, leaves it the time for a command, or not
+  now-beside : (i : ℕ) (p : Move) (t : Position) (g e : Event) → AreByLink t.net.packets → event_of l who (Go i) t.left ≡ Some g → event_of l who p t.left ≡ Some e
+      → (suc i == seat_by who p) ≡ false → is_ready g t.net ≡ true → is_ready e t.net ≡ true
+      → (place_of t.net.layout (actor_of t.net) g == place_of t.net.layout (actor_of t.net) e) ≡ false
+      → is_now (Go i) (step l who p t).left (step l who p t).net ≡ is_now (Go i) t.left t.net
+  now-beside i p t g e ordered is_g is_e seats one other places =
+      let far : are_apart t.net.layout (actor_of t.net) g e ≡ true =
+      and_from (not (seat_of g == seat_of e)) (not (place_of t.net.layout (actor_of t.net) g == place_of t.net.layout (actor_of t.net) e))
+      (ap₂ (λ u v. not (u == v)) (seat-is l who (Go i) t.left g is_g) (seat-is l who p t.left e is_e) ∙ ap not seats) (ap not places) in
+      ap (λ (q : Position). is_now (Go i) q.left q.net) (stepped l who p t e is_e)
+      ∙ now-past l who (Go i) p t.left (happened e t.net) seats
+      ∙ now-same l who (Go i) t.left g (happened e t.net) t.net is_g (own-stays t.net g e ordered (record { one = one; other = other; apart = far }))
+
 -- The move brings nothing new behind its neighbour, so it brings nothing new before it.
 module _ (r : Race) (who : ℕ → ℕ) (order : AreByLink r.net.packets) (m o : Move) (s : Position) (ordered : AreByLink s.net.packets) (h : are_neighbours r.net.layout who m o s ≡ true)
-    (quiet : (x : Move) → ready r.net.layout who x (step r.net.layout who m (step r.net.layout who o s)) ≡ true → (ready r.net.layout who x (step r.net.layout who o s) ≡ true) × (x ≢ m)) where
-  quiet-before : (x : Move) → ready r.net.layout who x (step r.net.layout who m s) ≡ true → (ready r.net.layout who x s ≡ true) × (x ≢ m)
-  quiet-before x k = by (same-or-not x o)
+    (strange : (i b : ℕ) → suc i ≤ length s.left → (suc i == who b) ≡ false) (plain : waits_behind m s.left ≡ false)
+    (quiet : (x : Move) → may_come_by r.net.layout who x (step r.net.layout who m (step r.net.layout who o s)) ≡ true → (may_come_by r.net.layout who x (step r.net.layout who o s) ≡ true) × (x ≢ m)) where
+  abbrev c : Commutes (racing r who) (λ (t : Position). AreByLink t.net.packets)
+  c = races-commute r who order
+
+  abbrev pair : Both r.net.layout who m o s
+  pair = both r.net.layout who m o s h
+
+  abbrev come : Move → Position → Bool
+  come x t = may_come_by r.net.layout who x t
+
+  abbrev next : Move → Position → Position
+  next x t = step r.net.layout who x t
+
+  parted : (x : Move) (t : Position) → come x t ≡ true → (ready r.net.layout who x t ≡ true) × (is_now x t.left t.net ≡ true)
+  parted x t k = and_parts (ready r.net.layout who x t) (is_now x t.left t.net) k
+
+  -- what may come behind both may come behind the neighbour alone
+  by-quiet : (x : Move) → x ≢ o → come x (next m s) ≡ true → is_now x (next o (next m s)).left (next o (next m s)).net ≡ true → (come x (next o s) ≡ true) × (x ≢ m)
+  by-quiet x n k now =
+      let still = parted o (next m s) (c.still o m s ordered (c.either m o s h)) in
+      let later = stays-ready r.net.layout who x o (next m s) (c.goes_on m s ordered (c.may m o s h)) n (parted x (next m s) k).0 still.0 in
+      quiet x
+      (ap (come x) (c.swap m o s ordered h)
+      ∙ and_from (ready r.net.layout who x (next o (next m s))) (is_now x (next o (next m s)).left (next o (next m s)).net) later now)
+
+  now-behind : is_now m (next o (next m s)).left (next o (next m s)).net ≡ true
+  now-behind =
+      let back = turned-both r.net.layout who m o s pair in
+      ap (λ (t : Position). is_now m t.left t.net) (two-steps r.net.layout who o m s back ordered)
+      ∙ now-past r.net.layout who m o (scripts_after m s.left) (happened back.e (happened back.f s.net)) (seats-differ r.net.layout who m o s.left s.left pair.e pair.f s.net pair.one pair.other pair.next.apart)
+      ∙ behind-now m s.left (happened back.e (happened back.f s.net)) plain
+
+  parted-seats : (i : ℕ) (p : Move) → suc i ≤ length s.left → Go i ≢ p → (suc i == seat_by who p) ≡ false
+  parted-seats i (Go j) le n = ne_eqb (suc i) (suc j) (λ e. n (ap Go (suc-same i j e)))
     where
-      by : (x ≡ o) ⊎ (x ≢ o) → (ready r.net.layout who x s ≡ true) × (x ≢ m)
-      by (inl same) =
-          let c = races-commute r who order in (
-            ap (λ z. ready r.net.layout who z s) same ∙ c.may o m s (c.either m o s h),
-            (λ e. differ r.net.layout who m o s h (sym e ∙ same)),
-          )
-      by (inr n) =
-          let c = races-commute r who order in
-          let turned-round = c.either m o s h in
-          let later = stays-ready r.net.layout who x o (step r.net.layout who m s) (c.goes_on m s ordered (c.may m o s h)) n k (c.still o m s ordered turned-round) in
-          let q = quiet x (ap (λ p. ready r.net.layout who x p) (c.swap m o s ordered h) ∙ later) in
-          (back-ready r.net.layout who x m o s h q.1 n k q.0, q.1)
+      suc-same : (i j : ℕ) → suc i ≡ suc j → i ≡ j
+      suc-same i j e = omega (arith, e)
+  parted-seats i (Carry a b) le n = strange i b le
+
+  third-place : (p a b : ℕ) → (a == b) ≡ false → (p == a) ≡ true → (p == b) ≡ false
+  third-place p a b n e = grind (arith, n, e)
+
+  module _ (i : ℕ) (g : Event) (its : event_of r.net.layout who (Go i) s.left ≡ Some g) (n : Go i ≢ o) (nm : Go i ≢ m) (k : come (Go i) (next m s) ≡ true)
+      (later : is_ready g (happened pair.e s.net) ≡ true) where
+    abbrev le : suc i ≤ length s.left
+    le = inside r.net.layout who i s.left g its
+
+    here : is_ready g s.net ≡ true
+    here = act-before i g pair.e s.net (is-act r.net.layout who i s.left g its) pair.next.one later
+
+    abbrev place : Event → ℕ
+    place e = place_of s.net.layout (actor_of s.net) e
+
+    -- behind the move alone
+    abbrev there : Position
+    there = record { net = happened pair.e s.net; left = scripts_after m s.left; told = answers_after m (own_of pair.e s.net) s.told }
+
+    at-its-place : (place g == place pair.e) ≡ true → is_now (Go i) s.left s.net ≡ true
+    at-its-place same =
+        let away = third-place (place g) (place pair.e) (place pair.f)
+        (off (place pair.e == place pair.f) (and_parts (not (seat_of pair.e == seat_of pair.f)) (not (place pair.e == place pair.f)) pair.next.apart).1) same in
+        let apart = seats-differ r.net.layout who m o s.left s.left pair.e pair.f s.net pair.one pair.other pair.next.apart in
+        let beside =
+        now-beside r.net.layout who i o there g pair.f (stays-ordered pair.e s.net pair.next.one ordered)
+        (next-past r.net.layout who (Go i) m s.left (parted-seats i m le nm) ∙ its)
+        (next-past r.net.layout who o m s.left (flip (seat_by who m) (seat_by who o) apart) ∙ pair.other)
+        (parted-seats i o le n) later
+        (stay s.net pair.f pair.e ordered (record { one = pair.next.other; other = pair.next.one; apart = turned pair.e pair.f s.net pair.next.apart }))
+        (ap₂ (λ u v. u == v) (same-place pair.e s.net pair.next.one g) (same-place pair.e s.net pair.next.one pair.f) ∙ away) in
+        let led = stepped r.net.layout who m s pair.e pair.one in
+        let now = ap (λ (t : Position). is_now (Go i) (next o t).left (next o t).net) led ∙ beside ∙ sym (ap (λ (t : Position). is_now (Go i) t.left t.net) led) ∙ (parted (Go i) (next m s) k).1 in
+        let q = by-quiet (Go i) n k now in
+        sym (now-beside r.net.layout who i o s g pair.f ordered its pair.other (parted-seats i o le n) here pair.next.other away)
+        ∙ (parted (Go i) (next o s) q.0).1
+
+    now-before : is_now (Go i) s.left s.net ≡ true
+    now-before =
+        elim (cases_Bool (place g == place pair.e)) [
+          | inl same ↦ at-its-place same
+          | inr away ↦
+              (sym (now-beside r.net.layout who i m s g pair.e ordered its pair.one (parted-seats i m le nm) here pair.next.one away)
+              ∙ (parted (Go i) (next m s) k).1)
+        ]
+
+    comes-before : come (Go i) s ≡ true
+    comes-before = and_from (ready r.net.layout who (Go i) s) (is_now (Go i) s.left s.net) (ap (λ z. is_ready_by z s.net) its ∙ here) now-before
+
+  other-before : (x : Move) → x ≢ o → x ≢ m → come x (next m s) ≡ true → come x s ≡ true
+  other-before (Go i) n nm k =
+      let f = some-event r.net.layout who (Go i) s.left (happened pair.e s.net) (past r.net.layout who (Go i) m o s h m pair.e pair.one nm (parted (Go i) (next m s) k).0) in
+      comes-before i f.0 f.1.0 n nm k f.1.1
+  other-before (Carry a b) n nm k =
+      let q = by-quiet (Carry a b) n k refl in
+      and_from (ready r.net.layout who (Carry a b) s) true
+      (back-ready r.net.layout who (Carry a b) m o s h nm n (parted (Carry a b) (next m s) k).0 (parted (Carry a b) (next o s) q.0).0) refl
+
+  quiet-before : (x : Move) → come x (next m s) ≡ true → (come x s ≡ true) × (x ≢ m)
+  quiet-before x k = by (same-or-not x o) (same-or-not x m)
+    where
+      by : (x ≡ o) ⊎ (x ≢ o) → (x ≡ m) ⊎ (x ≢ m) → (come x s ≡ true) × (x ≢ m)
+      by (inl same) z = (
+        ap (λ y. come y s) same ∙ c.may o m s (c.either m o s h),
+        (λ e. differ r.net.layout who m o s h (sym e ∙ same)),
+      )
+      by (inr n) (inl same) =
+          let q = by-quiet x n k (ap (λ y. is_now y (next o (next m s)).left (next o (next m s)).net) same ∙ now-behind) in absurd (q.1 same)
+      by (inr n) (inr nm) = (other-before x n nm k, nm)
 
 -- So it is where seat 0 delivers.
-module _ (r : Race) (ms : List Move) (m o : Move) (race : IsRace r) (h : IsHistory (replaying r) ms) (apart : meet_nowhere r.net.layout o m (state_after (replaying r) ms) ≡ true) (quiet : IsQuiet r (o ∷ ms) m) where
+module _ (r : Race) (ms : List Move) (m o : Move) (race : IsRace r) (h : IsHistory (replaying r) ms) (apart : meet_nowhere r.net.layout o m (state_after (replaying r) ms) ≡ true)
+    (plain : waits_behind m (state_after (replaying r) ms).left ≡ false) (quiet : IsQuiet r (o ∷ ms) m) where
   abbrev l : Layout
   l = r.net.layout
 
@@ -199,11 +356,11 @@ module _ (r : Race) (ms : List Move) (m o : Move) (race : IsRace r) (h : IsHisto
   abbrev at : Position
   at = at_c ms
 
-  abbrev c : Commutes (racing (carried r race) (carrier r race)) (λ (s : Position). AreByLink s.net.packets)
-  c = races-commute (carried r race) (carrier r race) race.order
+  abbrev law : Commutes (racing (carried r race) (carrier r race)) (λ (s : Position). AreByLink s.net.packets)
+  law = races-commute (carried r race) (carrier r race) race.order
 
   -- what may come is the same with carriers
-  same : (ns : List Move) → IsHistory (replaying r) ns → (x : Move) → may_come l x (state_after (replaying r) ns) ≡ is_ready_by (event_of l who x (at_c ns).left) (at_c ns).net
+  same : (ns : List Move) → IsHistory (replaying r) ns → (x : Move) → may_come l x (state_after (replaying r) ns) ≡ may_come_by l who x (at_c ns)
   same ns k x =
       let there = there-after r race ns (to-racing r race ns k) in
       let back = back-after r race ns there.0 in
@@ -213,10 +370,10 @@ module _ (r : Race) (ms : List Move) (m o : Move) (race : IsRace r) (h : IsHisto
   near =
       let there = there-after r race ms (to-racing r race ms h) in
       let back = back-after r race ms there.0 in
-      c.either o m at (sym (same-apart r race (state_after (racing r seat_0) ms) at there.1 back.1 o m) ∙ sym (ap (meet_nowhere l o m) (same-state r race ms)) ∙ apart)
+      law.either o m at (sym (same-apart r race (state_after (racing r seat_0) ms) at there.1 back.1 o m) ∙ sym (ap (meet_nowhere l o m) (same-state r race ms)) ∙ apart)
 
   ordered : AreByLink at.net.packets
-  ordered = keeps (racing (carried r race) (carrier r race)) (λ (s : Position). AreByLink s.net.packets) c ms (there-after r race ms (to-racing r race ms h)).0
+  ordered = keeps (racing (carried r race) (carrier r race)) (λ (s : Position). AreByLink s.net.packets) law ms (there-after r race ms (to-racing r race ms h)).0
 
   abbrev rest : Bool
   rest = not (are_of_one_script o m) && not (place_of_move o (state_after (replaying r) ms) == place_of_move m (state_after (replaying r) ms))
@@ -231,16 +388,27 @@ module _ (r : Race) (ms : List Move) (m o : Move) (race : IsRace r) (h : IsHisto
   other = (parts.0, h)
 
   two : IsHistory (replaying r) (m ∷ o ∷ ms)
-  two = (same (o ∷ ms) other m ∙ c.still m o at ordered near, other)
+  two = (same (o ∷ ms) other m ∙ law.still m o at ordered near, other)
 
-  brings : (x : Move) → ready l who x (step l who m (step l who o at)) ≡ true → (ready l who x (step l who o at) ≡ true) × (x ≢ m)
+  brings : (x : Move) → may_come_by l who x (step l who m (step l who o at)) ≡ true → (may_come_by l who x (step l who o at) ≡ true) × (x ≢ m)
   brings x k = (let q = quiet x (same (m ∷ o ∷ ms) two x ∙ k) in (sym (same (o ∷ ms) other x) ∙ q.0, q.1))
 
+  stays : Stays r (carried r race) seat_0 who (to-carried r race) (state_after (racing r seat_0) ms) at
+  stays = (there-after r race ms (to-racing r race ms h)).1
+
+  strange : (i b : ℕ) → suc i ≤ length at.left → (suc i == who b) ≡ false
+  strange i b le =
+      let inside : suc i ≤ length r.scripts = subst (λ (n : ℕ). suc i ≤ n) (ap length stays.left ∙ stays.all) le in
+      ne_eqb (suc i) (who b) (λ e. carrier-high r race b (suc i) inside (sym e))
+
+  free-behind : waits_behind m at.left ≡ false
+  free-behind = ap (waits_behind m) (stays.left ∙ sym (ap (λ (p : Position). p.left) (same-state r race ms))) ∙ plain
+
   stays-quiet : IsQuiet r ms m
-  stays-quiet x k = (let q = quiet-before (carried r race) who race.order m o at ordered near brings x (sym (same (m ∷ ms) one x) ∙ k) in (same ms h x ∙ q.0, q.1))
+  stays-quiet x k = (let q = quiet-before (carried r race) who race.order m o at ordered near strange free-behind brings x (sym (same (m ∷ ms) one x) ∙ k) in (same ms h x ∙ q.0, q.1))
 
   still-comes : may_come l o (state_after (replaying r) (m ∷ ms)) ≡ true
-  still-comes = same (m ∷ ms) one o ∙ c.still o m at ordered (c.either m o at near)
+  still-comes = same (m ∷ ms) one o ∙ law.still o m at ordered (law.either m o at near)
 
 pub neighbours-stay-quiet : NeighboursStayQuiet
-neighbours-stay-quiet r ms m o race h apart quiet = (stays-quiet r ms m o race h apart quiet, still-comes r ms m o race h apart quiet)
+neighbours-stay-quiet r ms m o race h apart plain quiet = (stays-quiet r ms m o race h apart plain quiet, still-comes r ms m o race h apart plain quiet)

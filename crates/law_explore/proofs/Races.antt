@@ -15,12 +15,13 @@ use Rattle.law_machine.proofs.Machine.Stays.{act-stays, work-stays}
 use Rattle.law_network.specs.Packets.{is_link, is_link_before, AreByLink, put, put_all, first_on, rest_on}
 use Rattle.law_network.specs.Network.{NetState, place_in, Event, Enter, Act, Deliver, See, happened}
 use Rattle.law_network.specs.Stands.{actor_of}
+use Rattle.law_awaits.specs.Awaits.{is_taken, takes_by, would_take}
 use Rattle.law_network.proofs.Standing.CallerList.{get-other, get-replaced}
 use Rattle.law_explore.specs.Neighbours.{seat_of, command_place, place_of, are_apart, has_packet, is_ready, AreNeighbours}
 use Rattle.law_explore.specs.Search.{Commutes}
 use Rattle.law_explore.specs.declared.moves.Move.{Move}
 use Rattle.law_explore.specs.declared.moves.Move.TheVariants.{Go, Carry}
-use Rattle.law_explore.specs.Races.{Race, Position, Told, next_of, behind_next, are_linked, event_of, scripts_after, position_after, is_ready_by, are_apart_by, are_neighbours, is_less, own_of, with_answer, answers_after, racing}
+use Rattle.law_explore.specs.Races.{Race, Order, Position, Told, next_of, behind_next, are_linked, event_of, may_now, is_now, may_come_by, scripts_after, position_after, is_ready_by, are_apart_by, are_neighbours, is_less, own_by, own_of, with_answer, answers_after, racing}
 use Rattle.law_explore.specs.Laws.{RacesNeedNormalsOnly}
 use Rattle.law_explore.proofs.Packets.{IsFrom, order-all}
 use Rattle.law_explore.proofs.Lists.{list-swap, list-other}
@@ -162,17 +163,33 @@ module _ (n : NetState) (e f g : Event) (h : AreNeighbours e f n) where
   pub ready-before : (seat_of e == seat_of g) ≡ false → is_ready g (happened e n) ≡ true → is_ready g (happened f n) ≡ true → is_ready g n ≡ true
   ready-before ne k j = and_from (is_some (slice_get n.callers (seat_of g))) (has_packet g n.packets) (seat-before ne k) (packet-before g k j)
 
+-- Whether a take would be answered by a message is read from what would answer it.
+
+abbrev taken_in : Option Told → Bool
+taken_in None = false
+taken_in (Some it) = is_taken it.act
+
+would-is : (k : ℕ) (c : Command) (n : NetState) → would_take k c n ≡ taken_in (own_of (Act k c) n)
+would-is k c n = by (slice_get n.callers k)
+  where
+    by : (o : Option Seated) → takes_by c n o ≡ taken_in (own_by c n o)
+    by None = refl
+    by (Some w) = refl
+
+would-same : (k : ℕ) (c : Command) (n m : NetState) → own_of (Act k c) n ≡ own_of (Act k c) m → would_take k c n ≡ would_take k c m
+would-same k c n m h = would-is k c n ∙ ap taken_in h ∙ sym (would-is k c m)
+
 -- Moves.
 
 -- whose move it is, whatever is left
-abbrev seat_by : (ℕ → ℕ) → Move → ℕ
+abbrev pub seat_by : (ℕ → ℕ) → Move → ℕ
 seat_by who (Go i) = suc i
 seat_by who (Carry a b) = who b
 
 pub some-same : (x z : Event) → Some x ≡ Some z → x ≡ z
 some-same x z h = cc
 
-flip : (a b : ℕ) → (a == b) ≡ false → (b == a) ≡ false
+pub flip : (a b : ℕ) → (a == b) ≡ false → (b == a) ≡ false
 flip a b ne = grind (arith, ne)
 
 pub turned : (e f : Event) (n : NetState) → are_apart n.layout (actor_of n) e f ≡ true → are_apart n.layout (actor_of n) f e ≡ true
@@ -183,7 +200,19 @@ turned e f n h = far (seat_of e) (seat_of f) (place_of n.layout (actor_of n) e) 
         let two = and_parts (not (a == b)) (not (p == q)) k in
         and_from (not (b == a)) (not (q == p)) (ap not (flip a b (off (a == b) two.0))) (ap not (flip p q (off (p == q) two.1)))
 
+-- where what would answer it is the same, it is the time for an order, or not
+now-order : (i : ℕ) (o : Option Order) (e : Event) (n m : NetState) → option_map (λ (x : Order). Act (suc i) x.command) o ≡ Some e → own_of e n ≡ own_of e m → may_now o i n ≡ may_now o i m
+now-order i None e n m event same = refl
+now-order i (Some o) e n m event same =
+    ap (λ b. not o.waits || b)
+    (would-same (suc i) o.command n m (subst (λ (x : Event). own_of x n ≡ own_of x m) (sym (some-same (Act (suc i) o.command) e event)) same))
+
 module _ (l : Layout) (who : ℕ → ℕ) where
+  -- and so for a move
+  pub now-same : (m : Move) (left : List (List Order)) (e : Event) (n k : NetState) → event_of l who m left ≡ Some e → own_of e n ≡ own_of e k → is_now m left n ≡ is_now m left k
+  now-same (Go i) left e n k event same = now-order i (next_of (slice_get left i)) e n k event same
+  now-same (Carry a b) left e n k event same = refl
+
   -- the events that neighbours are
   pub record Both (m o : Move) (s : Position) : Type 0 where
     pub e : Event
@@ -191,55 +220,68 @@ module _ (l : Layout) (who : ℕ → ℕ) where
     pub one : event_of l who m s.left ≡ Some e
     pub other : event_of l who o s.left ≡ Some f
     pub next : AreNeighbours e f s.net
+    pub one_now : is_now m s.left s.net ≡ true
+    pub other_now : is_now o s.left s.net ≡ true
 
   pub both : (m o : Move) (s : Position) → are_neighbours l who m o s ≡ true → Both m o s
   both m o s h = by (event_of l who m s.left) (event_of l who o s.left) refl refl h
     where
       by : (x z : Option Event) → event_of l who m s.left ≡ x → event_of l who o s.left ≡ z
-          → is_ready_by x s.net && (is_ready_by z s.net && are_apart_by x z s.net) ≡ true → Both m o s
+          → (is_ready_by x s.net && is_now m s.left s.net) && ((is_ready_by z s.net && is_now o s.left s.net) && are_apart_by x z s.net) ≡ true → Both m o s
       by None z i j k = absurd (false≢true k)
-      by (Some e) None i j k = absurd (false≢true (and_parts (is_ready e s.net) false k).1)
+      by (Some e) None i j k = absurd (false≢true (and_parts (is_ready e s.net && is_now m s.left s.net) false k).1)
       by (Some e) (Some f) i j k =
-          let first = and_parts (is_ready e s.net) (is_ready f s.net && are_apart s.net.layout (actor_of s.net) e f) k in
-          let second = and_parts (is_ready f s.net) (are_apart s.net.layout (actor_of s.net) e f) first.1 in
-          record { e = e; f = f; one = i; other = j; next = record { one = first.0; other = second.0; apart = second.1 } }
+          let first = and_parts (is_ready e s.net && is_now m s.left s.net) ((is_ready f s.net && is_now o s.left s.net) && are_apart s.net.layout (actor_of s.net) e f) k in
+          let second = and_parts (is_ready f s.net && is_now o s.left s.net) (are_apart s.net.layout (actor_of s.net) e f) first.1 in
+          let one = and_parts (is_ready e s.net) (is_now m s.left s.net) first.0 in
+          let other = and_parts (is_ready f s.net) (is_now o s.left s.net) second.0 in
+          record { e = e; f = f; one = i; other = j; next = record { one = one.0; other = other.0; apart = second.1 }; one_now = one.1; other_now = other.1 }
 
   pub from_both : (m o : Move) (s : Position) → Both m o s → are_neighbours l who m o s ≡ true
   from_both m o s h =
       let e = h.e in
       let f = h.f in
-      ap (λ x. is_ready_by x s.net && (is_ready_by (event_of l who o s.left) s.net && are_apart_by x (event_of l who o s.left) s.net)) h.one
-      ∙ ap (λ z. is_ready e s.net && (is_ready_by z s.net && are_apart_by (Some e) z s.net)) h.other
-      ∙ and_from (is_ready e s.net) (is_ready f s.net && are_apart s.net.layout (actor_of s.net) e f) h.next.one
-      (and_from (is_ready f s.net) (are_apart s.net.layout (actor_of s.net) e f) h.next.other h.next.apart)
+      let p = is_now m s.left s.net in
+      let q = is_now o s.left s.net in
+      ap (λ x. (is_ready_by x s.net && p) && ((is_ready_by (event_of l who o s.left) s.net && q) && are_apart_by x (event_of l who o s.left) s.net)) h.one
+      ∙ ap (λ z. (is_ready e s.net && p) && ((is_ready_by z s.net && q) && are_apart_by (Some e) z s.net)) h.other
+      ∙ and_from (is_ready e s.net && p) ((is_ready f s.net && q) && are_apart s.net.layout (actor_of s.net) e f) (and_from (is_ready e s.net) p h.next.one h.one_now)
+      (and_from (is_ready f s.net && q) (are_apart s.net.layout (actor_of s.net) e f) (and_from (is_ready f s.net) q h.next.other h.other_now) h.next.apart)
 
   abbrev step : Move → Position → Position
   step m s = position_after (event_of l who m s.left) m s
 
-  stepped : (m : Move) (s : Position) (e : Event) → event_of l who m s.left ≡ Some e → step m s ≡ record { net = happened e s.net; left = scripts_after m s.left; told = answers_after m (own_of e s.net) s.told }
+  pub stepped : (m : Move) (s : Position) (e : Event) → event_of l who m s.left ≡ Some e → step m s ≡ record { net = happened e s.net; left = scripts_after m s.left; told = answers_after m (own_of e s.net) s.told }
   stepped m s e i = ap (λ x. position_after x m s) i
 
   -- another script stays as it was
-  seat-is : (m : Move) (left : List (List Command)) (e : Event) → event_of l who m left ≡ Some e → seat_of e ≡ seat_by who m
+  pub seat-is : (m : Move) (left : List (List Order)) (e : Event) → event_of l who m left ≡ Some e → seat_of e ≡ seat_by who m
   seat-is (Go i) left e h = by (next_of (slice_get left i)) h
     where
-      by : (c : Option Command) → option_map (λ (d : Command). Act (suc i) d) c ≡ Some e → seat_of e ≡ suc i
+      by : (o : Option Order) → option_map (λ (x : Order). Act (suc i) x.command) o ≡ Some e → seat_of e ≡ suc i
       by None k = absurd (cc)
-      by (Some c) k = sym (ap seat_of (some-same (Act (suc i) c) e k))
+      by (Some o) k = sym (ap seat_of (some-same (Act (suc i) o.command) e k))
   seat-is (Carry a b) left e h = by (are_linked l a b) h
     where
       by : (x : Bool) → cond x (Some (Deliver (who b) a b)) None ≡ Some e → seat_of e ≡ who b
       by true k = sym (ap seat_of (some-same (Deliver (who b) a b) e k))
       by false k = absurd (cc)
 
-  next-past : (m o : Move) (left : List (List Command)) → (seat_by who m == seat_by who o) ≡ false → event_of l who m (scripts_after o left) ≡ event_of l who m left
+  pub next-past : (m o : Move) (left : List (List Order)) → (seat_by who m == seat_by who o) ≡ false → event_of l who m (scripts_after o left) ≡ event_of l who m left
   next-past (Go i) (Go j) left ne =
-      ap (λ (x : Option (List Command)). option_map (λ (d : Command). Act (suc i) d) (next_of x))
+      ap (λ (x : Option (List Order)). option_map (λ (y : Order). Act (suc i) y.command) (next_of x))
       (list-other left j i (behind_next (slice_get left j)) (λ e. eqb-false (suc i) (suc j) ne (ap suc (sym e))))
   next-past (Go i) (Carry c d) left ne = refl
   next-past (Carry a b) o left ne = refl
 
-  scripts_after-swap : (m o : Move) (left : List (List Command)) → (seat_by who m == seat_by who o) ≡ false → scripts_after m (scripts_after o left) ≡ scripts_after o (scripts_after m left)
+  pub now-past : (m o : Move) (left : List (List Order)) (n : NetState) → (seat_by who m == seat_by who o) ≡ false → is_now m (scripts_after o left) n ≡ is_now m left n
+  now-past (Go i) (Go j) left n ne =
+      ap (λ (x : Option (List Order)). may_now (next_of x) i n)
+      (list-other left j i (behind_next (slice_get left j)) (λ e. eqb-false (suc i) (suc j) ne (ap suc (sym e))))
+  now-past (Go i) (Carry c d) left n ne = refl
+  now-past (Carry a b) o left n ne = refl
+
+  scripts_after-swap : (m o : Move) (left : List (List Order)) → (seat_by who m == seat_by who o) ≡ false → scripts_after m (scripts_after o left) ≡ scripts_after o (scripts_after m left)
   scripts_after-swap (Go i) (Go j) left ne =
       let apart : i ≢ j = λ e. eqb-false (suc i) (suc j) ne (ap suc e) in
       let x = behind_next (slice_get left i) in
@@ -261,7 +303,7 @@ module _ (l : Layout) (who : ℕ → ℕ) where
   told-swap (Go i) (Carry c d) a b told ne = refl
   told-swap (Carry x z) o a b told ne = refl
 
-  seats-differ : (m o : Move) (left kept : List (List Command)) (e f : Event) (n : NetState) → event_of l who m left ≡ Some e → event_of l who o kept ≡ Some f → are_apart n.layout (actor_of n) e f ≡ true
+  pub seats-differ : (m o : Move) (left kept : List (List Order)) (e f : Event) (n : NetState) → event_of l who m left ≡ Some e → event_of l who o kept ≡ Some f → are_apart n.layout (actor_of n) e f ≡ true
       → (seat_by who m == seat_by who o) ≡ false
   seats-differ m o left kept e f n i j h =
       let two = and_parts (not (seat_of e == seat_of f)) (not (place_of n.layout (actor_of n) e == place_of n.layout (actor_of n) f)) h in
@@ -270,20 +312,31 @@ module _ (l : Layout) (who : ℕ → ℕ) where
   abbrev Ordered : Position → Type 0
   Ordered s = AreByLink s.net.packets
 
-  goes-on : (m : Move) (s : Position) → Ordered s → is_ready_by (event_of l who m s.left) s.net ≡ true → Ordered (step m s)
-  goes-on m s order h = by (event_of l who m s.left) h
+  goes-on : (m : Move) (s : Position) → Ordered s → may_come_by l who m s ≡ true → Ordered (step m s)
+  goes-on m s order h = by (event_of l who m s.left) (and_parts (is_ready_by (event_of l who m s.left) s.net) (is_now m s.left s.net) h).0
     where
       by : (x : Option Event) → is_ready_by x s.net ≡ true → Ordered (position_after x m s)
       by None k = absurd (false≢true k)
       by (Some e) k = stays-ordered e s.net k order
 
+  abbrev pub turned-both : (m o : Move) (s : Position) → Both m o s → Both o m s
+  turned-both m o s b = record {
+    e = b.f;
+    f = b.e;
+    one = b.other;
+    other = b.one;
+    next = record { one = b.next.other; other = b.next.one; apart = turned b.e b.f s.net b.next.apart };
+    one_now = b.other_now;
+    other_now = b.one_now;
+  }
+
   turned-moves : (m o : Move) (s : Position) → are_neighbours l who m o s ≡ true → are_neighbours l who o m s ≡ true
   turned-moves m o s h =
       let b = both m o s h in
-      from_both o m s (record { e = b.f; f = b.e; one = b.other; other = b.one; next = record { one = b.next.other; other = b.next.one; apart = turned b.e b.f s.net b.next.apart } })
+      from_both o m s (turned-both m o s b)
 
   -- one step and then another
-  two-steps : (m o : Move) (s : Position) (b : Both m o s) → Ordered s
+  pub two-steps : (m o : Move) (s : Position) (b : Both m o s) → Ordered s
       → step m (step o s) ≡ record { net = happened b.e (happened b.f s.net); left = scripts_after m (scripts_after o s.left); told = answers_after m (own_of b.e s.net) (answers_after o (own_of b.f s.net) s.told) }
   two-steps m o s b order =
       let apart = seats-differ m o s.left s.left b.e b.f s.net b.one b.other b.next.apart in
@@ -296,24 +349,30 @@ module _ (l : Layout) (who : ℕ → ℕ) where
   swap-moves m o s order h =
       let b = both m o s h in
       let apart = seats-differ m o s.left s.left b.e b.f s.net b.one b.other b.next.apart in
-      let back : Both o m s = record { e = b.f; f = b.e; one = b.other; other = b.one; next = record { one = b.next.other; other = b.next.one; apart = turned b.e b.f s.net b.next.apart } } in
+      let back = turned-both m o s b in
       let x = own_of b.e s.net in
       let z = own_of b.f s.net in
       two-steps m o s b order
       ∙ ap (λ (n : NetState). let p : Position = record { net = n; left = scripts_after m (scripts_after o s.left); told = answers_after m x (answers_after o z s.told) } in p) (commute s.net b.e b.f order b.next)
-      ∙ ap (λ (ls : List (List Command)). let p : Position = record { net = happened b.f (happened b.e s.net); left = ls; told = answers_after m x (answers_after o z s.told) } in p) (scripts_after-swap m o s.left apart)
+      ∙ ap (λ (ls : List (List Order)). let p : Position = record { net = happened b.f (happened b.e s.net); left = ls; told = answers_after m x (answers_after o z s.told) } in p) (scripts_after-swap m o s.left apart)
       ∙ ap (λ (ls : List (List Told)). let p : Position = record { net = happened b.f (happened b.e s.net); left = scripts_after o (scripts_after m s.left); told = ls } in p) (told-swap m o x z s.told apart)
       ∙ sym (two-steps o m s back order)
 
-  still-moves : (m o : Move) (s : Position) → Ordered s → are_neighbours l who m o s ≡ true → is_ready_by (event_of l who m (step o s).left) (step o s).net ≡ true
+  -- it stays the time for it
+  still-now : (m o : Move) (s : Position) (b : Both m o s) → Ordered s → is_now m (scripts_after o s.left) (happened b.f s.net) ≡ true
+  still-now m o s b order =
+      now-past m o s.left (happened b.f s.net) (seats-differ m o s.left s.left b.e b.f s.net b.one b.other b.next.apart)
+      ∙ now-same m s.left b.e (happened b.f s.net) s.net b.one (own-stays s.net b.e b.f order b.next) ∙ b.one_now
+
+  still-moves : (m o : Move) (s : Position) → Ordered s → are_neighbours l who m o s ≡ true → may_come_by l who m (step o s) ≡ true
   still-moves m o s order h =
       let b = both m o s h in
       let apart = seats-differ m o s.left s.left b.e b.f s.net b.one b.other b.next.apart in
-      ap (λ (p : Position). is_ready_by (event_of l who m p.left) p.net) (stepped o s b.f b.other)
-      ∙ ap (λ x. is_ready_by x (happened b.f s.net)) (next-past m o s.left apart ∙ b.one)
-      ∙ stay s.net b.e b.f order b.next
+      ap (λ (p : Position). may_come_by l who m p) (stepped o s b.f b.other)
+      ∙ ap (λ x. is_ready_by x (happened b.f s.net) && is_now m (scripts_after o s.left) (happened b.f s.net)) (next-past m o s.left apart ∙ b.one)
+      ∙ and_from (is_ready b.e (happened b.f s.net)) (is_now m (scripts_after o s.left) (happened b.f s.net)) (stay s.net b.e b.f order b.next) (still-now m o s b order)
 
-  module _ (a b m : Move) (s : Position) (h : Both a b s) where
+  module _ (a b m : Move) (s : Position) (order : Ordered s) (h : Both a b s) where
     abbrev with_a : Position
     with_a = record { net = happened h.e s.net; left = scripts_after a s.left; told = answers_after a (own_of h.e s.net) s.told }
 
@@ -361,19 +420,24 @@ module _ (l : Layout) (who : ℕ → ℕ) where
           ap (λ x. are_apart s.net.layout (actor_of s.net) x h.e) (sym same) ∙ ap (are_apart s.net.layout (actor_of s.net) j.e) (sym same-a)
           ∙ sym (same-apart h.f s.net h.next.other j.e j.f) ∙ j.next.apart
 
+      now : is_now m s.left s.net ≡ true
+      now =
+          sym (now-same m s.left k.e (happened h.e s.net) s.net its (own-stays s.net k.e h.e order (record { one = ready; other = h.next.one; apart = with-a })))
+          ∙ sym (now-past m a s.left (happened h.e s.net) m-and-a) ∙ k.one_now
+
       pub back-moves : (are_neighbours l who m b s ≡ true) × (are_neighbours l who m a s ≡ true)
       back-moves = (
-        from_both m b s (record { e = k.e; f = h.f; one = its; other = h.other; next = record { one = ready; other = h.next.other; apart = with-b } }),
-        from_both m a s (record { e = k.e; f = h.e; one = its; other = h.one; next = record { one = ready; other = h.next.one; apart = with-a } }),
+        from_both m b s (record { e = k.e; f = h.f; one = its; other = h.other; next = record { one = ready; other = h.next.other; apart = with-b }; one_now = now; other_now = h.other_now }),
+        from_both m a s (record { e = k.e; f = h.e; one = its; other = h.one; next = record { one = ready; other = h.next.one; apart = with-a }; one_now = now; other_now = h.one_now }),
       )
 
   pub backs : (a b m : Move) (s : Position) → Ordered s → are_neighbours l who a b s ≡ true → are_neighbours l who m b (step a s) ≡ true → are_neighbours l who m a (step b s) ≡ true
       → (are_neighbours l who m b s ≡ true) × (are_neighbours l who m a s ≡ true)
   backs a b m s order x y z =
       let h = both a b s x in
-      back-moves a b m s h
-      (both m b (with_a a b m s h) (subst (λ (p : Position). are_neighbours l who m b p ≡ true) (stepped a s h.e h.one) y))
-      (both m a (with_b a b m s h) (subst (λ (p : Position). are_neighbours l who m a p ≡ true) (stepped b s h.f h.other) z))
+      back-moves a b m s order h
+      (both m b (with_a a b m s order h) (subst (λ (p : Position). are_neighbours l who m b p ≡ true) (stepped a s h.e h.one) y))
+      (both m a (with_b a b m s order h) (subst (λ (p : Position). are_neighbours l who m a p ≡ true) (stepped b s h.f h.other) z))
 
 -- The order of moves.
 
@@ -403,7 +467,7 @@ races-commute r who order =
     record {
       begins = order;
       goes_on = goes-on r.net.layout who;
-      may = λ a b s h. (and_parts (is_ready_by (event_of r.net.layout who a s.left) s.net) (is_ready_by (event_of r.net.layout who b s.left) s.net && are_apart_by (event_of r.net.layout who a s.left) (event_of r.net.layout who b s.left) s.net) h).0;
+      may = λ a b s h. (and_parts (may_come_by r.net.layout who a s) (may_come_by r.net.layout who b s && are_apart_by (event_of r.net.layout who a s.left) (event_of r.net.layout who b s.left) s.net) h).0;
       either = turned-moves r.net.layout who;
       swap = swap-moves r.net.layout who;
       still = still-moves r.net.layout who;

@@ -1,5 +1,5 @@
 -- The same moves come to the same, whoever delivers.
-use Rattle.std.proofs.Common.{ℕ, zero, suc, ◌≡◌, ◌≤◌, ◌==◌, Bool, true, false, cond, List, [], ◌∷◌, length, map, Option, Some, None, is_some, slice_get, slice_set, inl, inr, refl, sym, ◌∙◌, ap, subst, arith}
+use Rattle.std.proofs.Common.{ℕ, zero, suc, ◌≡◌, ◌≤◌, ◌==◌, Bool, true, false, ◌&&◌, cond, List, [], ◌∷◌, length, map, Option, Some, None, is_some, slice_get, slice_set, inl, inr, refl, sym, ◌∙◌, ap, subst, arith}
 use Rattle.std.specs.Option.{option_map}
 use Rattle.std.proofs.lemmas.Bool.{false≢true, and_parts, and_from, cases_Bool, eqb-false}
 use Rattle.chorus_ui.specs.declared.layout.Layout.{Layout}
@@ -14,13 +14,13 @@ use Rattle.law_explore.specs.Neighbours.{seat_of, is_ready}
 use Rattle.law_explore.specs.Search.{state_after, IsHistory}
 use Rattle.law_explore.specs.declared.moves.Move.{Move}
 use Rattle.law_explore.specs.declared.moves.Move.TheVariants.{Go, Carry}
-use Rattle.law_explore.specs.Races.{Race, Position, Told, next_of, are_linked, event_of, scripts_after, own_by, own_of, answers_after, position_after, is_ready_by, racing}
+use Rattle.law_explore.specs.Races.{Race, Order, Position, Told, next_of, are_linked, event_of, may_now, is_now, may_come_by, scripts_after, own_by, own_of, answers_after, position_after, is_ready_by, racing}
 use Rattle.law_explore.specs.Outcome.{outcome_with}
 use Rattle.law_explore.specs.Laws.{RacesAlike, MovesComeToTheSame}
 use Rattle.law_explore.proofs.Alike.{Keeping, keep_acts}
 use Rattle.law_explore.proofs.Settling.{told-alike}
 use Rattle.law_explore.proofs.Nets.{nets-stay-alike, begins, some-too}
-use Rattle.law_explore.proofs.Races.{caller, turn, is}
+use Rattle.law_explore.proofs.Races.{caller, turn, is, now-same}
 use Rattle.law_explore.proofs.Telling.{acts-tell, outcomes}
 
 -- Who was there stays there.
@@ -45,14 +45,14 @@ length-set [] i x = refl
 length-set (y ∷ xs) zero x = refl
 length-set (y ∷ xs) (suc i) x = ap suc (length-set xs i x)
 
-pub long : (m : Move) (left : List (List Command)) → length (scripts_after m left) ≡ length left
+pub long : (m : Move) (left : List (List Order)) → length (scripts_after m left) ≡ length left
 long (Go i) left = length-set left i _
 long (Carry a b) left = refl
 
-short : (left : List (List Command)) (i : ℕ) (c : Command) → next_of (slice_get left i) ≡ Some c → suc i ≤ length left
-short [] i c h = absurd (cc)
-short (cs ∷ left) zero c h = omega arith
-short (cs ∷ left) (suc i) c h = let le = short left i c h in omega (arith, le)
+pub short : (left : List (List Order)) (i : ℕ) (o : Order) → next_of (slice_get left i) ≡ Some o → suc i ≤ length left
+short [] i o h = absurd (cc)
+short (os ∷ left) zero o h = omega arith
+short (os ∷ left) (suc i) o h = let le = short left i o h in omega (arith, le)
 
 -- Positions that stay alike, by a relation of journals and one of the acts that answered.
 module _ (J : List Entry → List Entry → Type 0) (T : List (List Told) → List (List Told) → Type 0) where
@@ -70,12 +70,14 @@ module _ (J : List Entry → List Entry → Type 0) (keep : Keeping J) (T : List
     (l : Layout) (count : ℕ) (one other : ℕ → ℕ) (behind : (b k : ℕ) → 1 ≤ k → k ≤ count → (one b ≡ k → ⊥) × (other b ≡ k → ⊥)) where
   -- may come in the second too, and they stay alike
   abbrev Follows : Move → Position → Position → Type 0
-  Follows m s t = (is_ready_by (event_of l other m t.left) t.net ≡ true) × Stay J T count other (position_after (event_of l one m s.left) m s) (position_after (event_of l other m t.left) m t)
+  Follows m s t = (may_come_by l other m t ≡ true) × Stay J T count other (position_after (event_of l one m s.left) m s) (position_after (event_of l other m t.left) m t)
 
   module _ (s t : Position) (h : Stay J T count other s t) where
-    goes : (m : Move) (e f : Event) → event_of l one m s.left ≡ Some e → event_of l other m t.left ≡ Some f → is_ready f t.net ≡ true → AreSameMove count e f s.net t.net → own_of f t.net ≡ own_of e s.net → Follows m s t
-    goes m e f is_e is_f ready same own = (
-      ap (λ x. is_ready_by x t.net) is_f ∙ ready,
+    goes : (m : Move) (e f : Event) → event_of l one m s.left ≡ Some e → event_of l other m t.left ≡ Some f → is_ready f t.net ≡ true → is_now m s.left s.net ≡ true → AreSameMove count e f s.net t.net → own_of f t.net ≡ own_of e s.net
+        → is_now m s.left t.net ≡ is_now m s.left s.net → Follows m s t
+    goes m e f is_e is_f ready now same own times = (
+      ap (λ x. is_ready_by x t.net && is_now m t.left t.net) is_f
+          ∙ and_from (is_ready f t.net) (is_now m t.left t.net) ready (ap (λ (ls : List (List Order)). is_now m ls t.net) h.left ∙ times ∙ now),
       subst (λ x. Stay J T count other (position_after x m s) (position_after (event_of l other m t.left) m t)) (sym is_e)
           (subst (λ x. Stay J T count other (position_after (Some e) m s) (position_after x m t)) (sym is_f)
           (record {
@@ -87,21 +89,26 @@ module _ (J : List Entry → List Entry → Type 0) (keep : Keeping J) (T : List
           })),
     )
 
-    pub follows : (m : Move) → is_ready_by (event_of l one m s.left) s.net ≡ true → Follows m s t
+    pub follows : (m : Move) → may_come_by l one m s ≡ true → Follows m s t
     follows (Go i) ready = by (next_of (slice_get s.left i)) refl ready
       where
-        by : (o : Option Command) → next_of (slice_get s.left i) ≡ o → is_ready_by (option_map (λ (c : Command). Act (suc i) c) o) s.net ≡ true → Follows (Go i) s t
+        by : (o : Option Order) → next_of (slice_get s.left i) ≡ o → is_ready_by (option_map (λ (x : Order). Act (suc i) x.command) o) s.net && may_now o i s.net ≡ true → Follows (Go i) s t
         by None e k = absurd (false≢true k)
-        by (Some c) e k =
+        by (Some o) e k =
+            let c = o.command in
+            let parts = and_parts (is_ready (Act (suc i) c) s.net) (may_now (Some o) i s.net) k in
             let low : 1 ≤ suc i = omega arith in
-            let high : suc i ≤ count = subst (λ z. suc i ≤ z) h.all (short s.left i c e) in
+            let high : suc i ≤ count = subst (λ z. suc i ≤ z) h.all (short s.left i o e) in
             let alike = h.nets.callers (suc i) low high in
-            let is_e : event_of l one (Go i) s.left ≡ Some (Act (suc i) c) = ap (option_map (λ (d : Command). Act (suc i) d)) e in
-            let is_f : event_of l other (Go i) t.left ≡ Some (Act (suc i) c) = ap (λ (ls : List (List Command)). event_of l other (Go i) ls) h.left ∙ is_e in
+            let same = owned c low high (slice_get s.net.callers (suc i)) (slice_get t.net.callers (suc i)) alike in
+            let is_e : event_of l one (Go i) s.left ≡ Some (Act (suc i) c) = ap (option_map (λ (x : Order). Act (suc i) x.command)) e in
+            let is_f : event_of l other (Go i) t.left ≡ Some (Act (suc i) c) = ap (λ (ls : List (List Order)). event_of l other (Go i) ls) h.left ∙ is_e in
             goes (Go i) (Act (suc i) c) (Act (suc i) c) is_e is_f
-            (and_from (is_some (slice_get t.net.callers (suc i))) true (both (slice_get s.net.callers (suc i)) (slice_get t.net.callers (suc i)) alike (and_parts (is_some (slice_get s.net.callers (suc i))) true k).0) refl)
+            (and_from (is_some (slice_get t.net.callers (suc i))) true (both (slice_get s.net.callers (suc i)) (slice_get t.net.callers (suc i)) alike (and_parts (is_some (slice_get s.net.callers (suc i))) true parts.0).0) refl)
+            (ap (λ (x : Option Order). may_now x i s.net) e ∙ parts.1)
             (inl (suc i, (c, (refl, refl, low, high))))
-            (sym (owned c low high (slice_get s.net.callers (suc i)) (slice_get t.net.callers (suc i)) alike))
+            (sym same)
+            (now-same l one (Go i) s.left (Act (suc i) c) t.net s.net is_e (sym same))
           where
             both : (x z : Option Seated) → CallerAlike x z → is_some x ≡ true → is_some z ≡ true
             both None z a g = absurd (false≢true g)
@@ -116,14 +123,17 @@ module _ (J : List Entry → List Entry → Type 0) (keep : Keeping J) (T : List
                 ap (λ (x : Told). Some x) (told-alike J keep c _ _ (begins J keep count s.net t.net h.nets (suc i) c low high w v a))
     follows (Carry a b) ready = by (are_linked l a b) refl ready
       where
-        by : (x : Bool) → are_linked l a b ≡ x → is_ready_by (cond x (Some (Deliver (one b) a b)) None) s.net ≡ true → Follows (Carry a b) s t
+        by : (x : Bool) → are_linked l a b ≡ x → is_ready_by (cond x (Some (Deliver (one b) a b)) None) s.net && true ≡ true → Follows (Carry a b) s t
         by false e k = absurd (false≢true k)
         by true e k =
-            let parts = and_parts (is_some (slice_get s.net.callers (one b))) (is_some (first_on a b s.net.packets)) k in
+            let ready = (and_parts (is_ready (Deliver (one b) a b) s.net) true k).0 in
+            let parts = and_parts (is_some (slice_get s.net.callers (one b))) (is_some (first_on a b s.net.packets)) ready in
             goes (Carry a b) (Deliver (one b) a b) (Deliver (other b) a b)
             (ap (λ x. cond x (Some (Deliver (one b) a b)) None) e) (ap (λ x. cond x (Some (Deliver (other b) a b)) None) e)
             (and_from (is_some (slice_get t.net.callers (other b))) (is_some (first_on a b t.net.packets)) (h.there b) (some-too a b s.net.packets t.net.packets h.nets.packets parts.1))
+            refl
             (inr (one b, (other b, (a, (b, (refl, refl, parts.0, h.there b, behind b))))))
+            refl
             refl
 
 abbrev pub SameTold : List (List Told) → List (List Told) → Type 0
@@ -143,7 +153,7 @@ module _ (r q : Race) (one other : ℕ → ℕ) (alike : RacesAlike r q one othe
     record {
       nets = alike.nets;
       left = alike.scripts;
-      told = ap (map (λ (cs : List Command). [])) alike.scripts;
+      told = ap (map (λ (os : List Order). [])) alike.scripts;
       all = refl;
       there = alike.there;
     },
@@ -154,14 +164,16 @@ module _ (r q : Race) (one other : ℕ → ℕ) (alike : RacesAlike r q one othe
       let t = state_after (racing q other) ms in
       let next = follows ActAlike keep_acts SameTold grow-same r.net.layout (length r.scripts) one other alike.behind s t before.1 m h.0 in
       let same = sym alike.nets.layout in (
-        (ap (λ (k : Layout). is_ready_by (event_of k other m t.left) t.net) (sym same) ∙ next.0, before.0),
+        (ap (λ (k : Layout). may_come_by k other m t) (sym same) ∙ next.0, before.0),
         subst (λ (k : Layout). Stays (position_after (event_of r.net.layout one m s.left) m s) (position_after (event_of k other m t.left) m t)) same next.1,
       )
 
 pub moves_come_to_the_same : MovesComeToTheSame
 moves_come_to_the_same r q one other ms alike history =
-    let all = alike-after r q one other alike ms history in (
+    let all = alike-after r q one other alike ms history in
+    let s = state_after (racing r one) ms in
+    let t = state_after (racing q other) ms in (
       all.0,
-      ap (λ (told : List (List Told)). outcome_with told (state_after (racing q other) ms).net.places) all.1.told
-          ∙ sym (outcomes ActAlike acts-tell (state_after (racing r one) ms).told (state_after (racing r one) ms).net.places (state_after (racing q other) ms).net.places all.1.nets.places),
+      (λ i. outcome_with (alike.scripts i) (all.1.left i) (all.1.told i) t.net.places)
+          ∙ sym (outcomes ActAlike acts-tell r.scripts s.left s.told s.net.places t.net.places all.1.nets.places),
     )

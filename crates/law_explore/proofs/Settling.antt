@@ -1,6 +1,6 @@
 -- What answers a command is the same in turns that are alike.
 -- t and u are turns, w is a caller, last a clock, m a message.
-use Rattle.std.proofs.Common.{ℕ, ◌≡◌, List, Option, Some, None, refl, sym, ◌∙◌, ap, subst}
+use Rattle.std.proofs.Common.{ℕ, ◌≡◌, List, Option, Some, None, refl, sym, ◌∙◌, ap}
 use Rattle.chorus_entry.specs.declared.act.Act.{Act}
 use Rattle.chorus_entry.specs.declared.act.Act.TheVariants.{Take}
 use Rattle.chorus_entry.specs.declared.command.Command.{Command}

@@ -13,8 +13,8 @@ use Rattle.chorus_world.specs.Messages.{verdict, verdict_by}
 use Rattle.chorus_ports.specs.Table as table
 use Rattle.law_machine.specs.PlaceState.{PlaceState}
 use Rattle.law_explore.specs.Alike.{ActAlike, PlacesAlike}
-use Rattle.law_explore.specs.Outcome.{answer_facts, plain_answer, Judged, port_fact, posts_in, verdict_in, copies_in, is_stale_by, is_stale_at, is_stale_in, stale_facts, made_in, made_by, made_at, held_in, outcome_with}
-use Rattle.law_explore.specs.Races.{Told}
+use Rattle.law_explore.specs.Outcome.{answer_facts, plain_answer, Judged, port_fact, posts_in, verdict_in, copies_in, is_stale_by, is_stale_at, is_stale_in, stale_facts, stuck_facts, made_in, made_by, made_at, held_in, outcome_with}
+use Rattle.law_explore.specs.Races.{Order, Told}
 use Rattle.law_explore.specs.Moment.{accept_in}
 use Rattle.law_explore.specs.Positions.{TellAlike, OrderAlike, AskAlike}
 use Rattle.law_explore.proofs.Alike.{Keeping, read-more, acts-read}
@@ -122,9 +122,10 @@ module _ (J : List Entry → List Entry → Type 0) (tell : (j k : List Entry) �
       ap (option_or (table.find q s.ports)) (places-held q ss rs h.1)
       ∙ ap (λ (z : PlaceState). option_or (table.find q z.ports) (held_in q rs)) (sym (h.0).is)
 
-  pub outcomes : (told : List (List Told)) (ss rs : List PlaceState) → PlacesAlike J ss rs → outcome_with told ss ≡ outcome_with told rs
-  outcomes told ss rs h =
+  pub outcomes : (scripts left : List (List Order)) (told : List (List Told)) (ss rs : List PlaceState) → PlacesAlike J ss rs → outcome_with scripts left told ss ≡ outcome_with scripts left told rs
+  outcomes scripts left told ss rs h =
       λ i. answer_facts 1 told
       ++ flat_map (λ (x : MsgId). Judged x (places-verdict x ss rs h i) ∷ stale_facts x (places-stale x ss rs h i))
       (flat_map (λ (x : MsgId). x ∷ places-copies x ss rs h i) (posts_in told))
       ++ filter_map (λ (q : Ui). option_map port_fact (places-held q ss rs h i)) (places-made ss rs h i)
+      ++ stuck_facts scripts left

@@ -10,8 +10,8 @@ use Rattle.chorus_entry.specs.declared.id.MsgId.{MsgId}
 use Rattle.law_machine.specs.PlaceState.{PlaceState}
 use Rattle.law_explore.specs.declared.moves.Move.{Move}
 use Rattle.law_explore.specs.declared.moves.Move.TheVariants.{Go, Carry}
-use Rattle.law_explore.specs.Races.{Told, with_answer, answers_after}
-use Rattle.law_explore.specs.Outcome.{plain_act, answers_from, answer_facts, Answered, post_in, posted, posts_in, copies_in, facts_about, port_facts, outcome_with}
+use Rattle.law_explore.specs.Races.{Order, Told, with_answer, answers_after}
+use Rattle.law_explore.specs.Outcome.{plain_act, answers_from, answer_facts, Answered, post_in, posted, posts_in, copies_in, facts_about, port_facts, stuck_facts, outcome_with}
 use Rattle.law_explore.specs.Positions.{plain_it, plain_told}
 
 -- Lists.
@@ -79,11 +79,13 @@ posts-plain (told ∷ rest) =
     (λ j. filter_map posted (sym (map-reverse plain_it told) j) ++ posts-plain rest j)
     ∙ ap (λ ids. ids ++ posts_in rest) (posted-plain (reverse told))
 
-outcome-plain : (told : List (List Told)) (ps : List PlaceState) → outcome_with (plain_told told) ps ≡ outcome_with told ps
-outcome-plain told ps =
+outcome-plain : (scripts left : List (List Order)) (told : List (List Told)) (ps : List PlaceState) → outcome_with scripts left (plain_told told) ps ≡ outcome_with scripts left told ps
+outcome-plain scripts left told ps =
     λ j. scripts-plain 1 told j
     ++ flat_map (facts_about ps) (flat_map (λ (x : MsgId). x ∷ copies_in x ps) (posts-plain told j))
     ++ port_facts ps
+    ++ stuck_facts scripts left
 
-pub outcome-same : (told other : List (List Told)) (ps : List PlaceState) → SamePlain told other → outcome_with told ps ≡ outcome_with other ps
-outcome-same told other ps h = sym (outcome-plain told ps) ∙ ap (λ t. outcome_with t ps) (sym h) ∙ outcome-plain other ps
+pub outcome-same : (scripts left : List (List Order)) (told other : List (List Told)) (ps : List PlaceState) → SamePlain told other → outcome_with scripts left told ps ≡ outcome_with scripts left other ps
+outcome-same scripts left told other ps h =
+    sym (outcome-plain scripts left told ps) ∙ ap (λ t. outcome_with scripts left t ps) (sym h) ∙ outcome-plain scripts left other ps

@@ -27,8 +27,8 @@ pub record RacesAlike (r q : Race) (one other : ℕ → ℕ) : Type 0 where
 abbrev pub MovesComeToTheSame : Type 0
 MovesComeToTheSame =
     (r q : Race) (one other : ℕ → ℕ) (ms : List Move) → RacesAlike r q one other → IsHistory (racing r one) ms →
-    IsHistory (racing q other) ms × (outcome_of (state_after (racing q other) ms)
-    ≡ outcome_of (state_after (racing r one) ms))
+    IsHistory (racing q other) ms × (outcome_of q (state_after (racing q other) ms)
+    ≡ outcome_of r (state_after (racing r one) ms))
 
 -- A race as a replay goes.
 

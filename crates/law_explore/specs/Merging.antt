@@ -2,14 +2,13 @@
 -- r is a race, s and t are positions, told and other are what answered, ms, os and more are moves, the latest first, ss
 -- and rs are places, n and m are networks.
 use Rattle.std.specs.Prelude.{ℕ, ◌≡◌, Bool, true, List, ◌++◌, length, Option}
-use Rattle.chorus_entry.specs.declared.command.Command.{Command}
 use Rattle.chorus_entry.specs.declared.id.MsgId.{MsgId}
 use Rattle.law_machine.specs.PlaceState.{PlaceState}
 use Rattle.law_network.specs.Network.{NetState}
 use Rattle.law_explore.specs.Alike.{NetsAlike, PlacesAlike}
 use Rattle.law_explore.specs.Search.{IsHistory, state_after}
 use Rattle.law_explore.specs.declared.moves.Move.{Move}
-use Rattle.law_explore.specs.Races.{Race, Position, Told, answers_after, replaying, IsRace}
+use Rattle.law_explore.specs.Races.{Race, Order, Position, Told, answers_after, replaying, IsRace}
 use Rattle.law_explore.specs.Outcome.{outcome_with}
 use Rattle.law_explore.specs.Moment.{moment_with}
 use Rattle.law_explore.specs.Positions.{AskAlike, next_behind}
@@ -56,11 +55,11 @@ ToldAlikeIsAnEquivalence = (tells : Telling) (count : ℕ) → IsEquivalence (Ar
 -- places that are alike tell the same outcome, whatever answered
 abbrev pub PlacesTellTheSame : Type 0
 PlacesTellTheSame =
-    (asks : Bool) (told : List (List Told)) (ss rs : List PlaceState) → PlacesAlike (AskAlike asks) ss rs →
-    outcome_with told ss ≡ outcome_with told rs
+    (asks : Bool) (scripts left : List (List Order)) (told : List (List Told)) (ss rs : List PlaceState) →
+    PlacesAlike (AskAlike asks) ss rs → outcome_with scripts left told ss ≡ outcome_with scripts left told rs
 
 -- and where claims are asked networks that are alike tell the same of a moment
 abbrev pub NetsTellTheSame : Type 0
 NetsTellTheSame =
-    (scripts left : List (List Command)) (told : List (List Told)) (n m : NetState) →
+    (scripts left : List (List Order)) (told : List (List Told)) (n m : NetState) →
     NetsAlike (AskAlike true) (length scripts) n m → moment_with scripts left told n ≡ moment_with scripts left told m

@@ -3,7 +3,6 @@
 -- journal.
 use Rattle.std.specs.Prelude.{ℕ, ◌+◌, ◌-◌, ◌==◌, if◌then◌else◌, List, [], ◌∷◌, ◌++◌, length, map, reverse, Option, Some, None, slice_get}
 use Rattle.std.specs.List.{flat_map, filter_map}
-use Rattle.std.specs.Option.{option_map}
 use Rattle.chorus_ui.specs.declared.kind.Kind.TheVariants.{Group}
 use Rattle.chorus_ui.specs.declared.ui.Ui.{Ui}
 use Rattle.chorus_ui.specs.Layout.{site_of}
@@ -11,7 +10,6 @@ use Rattle.chorus_ui.specs.Name.{same_ui}
 use Rattle.chorus_entry.specs.declared.act.Act as acts
 use Rattle.chorus_entry.specs.declared.act.Act.TheVariants as variants
 use Rattle.chorus_entry.specs.declared.answer.Answer.{Answer}
-use Rattle.chorus_entry.specs.declared.command.Command.{Command}
 use Rattle.chorus_entry.specs.declared.entry.Entry.{Entry}
 use Rattle.chorus_entry.specs.declared.hand.Hand.{Hand}
 use Rattle.chorus_entry.specs.declared.id.MsgId.{MsgId}
@@ -27,8 +25,8 @@ use Rattle.law_machine.specs.PlaceState.{PlaceState}
 use Rattle.law_network.specs.Network.{NetState, numbers}
 use Rattle.law_explore.specs.Search.{state_after}
 use Rattle.law_explore.specs.declared.moves.Move.{Move}
-use Rattle.law_explore.specs.Races.{Race, Position, Told, replaying}
-use Rattle.law_explore.specs.Outcome.{Fact, Answered, Settled, Judged, Open, Copied, Accepted, Moving, Members, Calls, Holds, Next, plain_act, plain_answer, posts_in, verdict_in, copies_in, is_stale_in, stale_facts, made_at, port_facts}
+use Rattle.law_explore.specs.Races.{Race, Order, Position, Told, replaying}
+use Rattle.law_explore.specs.Outcome.{Fact, Answered, Settled, Judged, Open, Copied, Accepted, Moving, Members, Calls, Holds, Next, plain_act, plain_answer, posts_in, verdict_in, copies_in, is_stale_in, stale_facts, made_at, port_facts, left_facts}
 
 -- Answers: of a reply that was taken also whether it ended the script's call.
 
@@ -123,14 +121,8 @@ abbrev pub caller_facts : ℕ → Option Seated → List Fact
 caller_facts k None = []
 caller_facts k (Some w) = call_facts k w.client.outstanding ++ hand_facts k w.hand
 
--- the commands of script k, and those that are left of it
-abbrev pub next_fact : ℕ → List Command → List Command → List Fact
-next_fact k all [] = []
-next_fact k all (c ∷ left) = Next k (length all - length left) ∷ []
-
-abbrev pub next_facts : ℕ → List (List Command) → List (List Command) → List Fact
-next_facts k (all ∷ scripts) (left ∷ lefts) = next_fact k all left ++ next_facts (k + 1) scripts lefts
-next_facts k _ _ = []
+abbrev pub next_facts : List (List Order) → List (List Order) → List Fact
+next_facts scripts left = left_facts Next 1 scripts left
 
 -- Of each script and each command how it was answered; of each message that was posted, and of its copies, the verdict, or
 -- that it is open; each port that is held; what each port accepted; the ports under way; the members of each group; the
@@ -138,11 +130,11 @@ next_facts k _ _ = []
 abbrev pub place_facts : List PlaceState → List Fact
 place_facts ps = port_facts ps ++ accept_facts ps
 
-abbrev pub script_facts : List (List Command) → List (List Command) → List Seated → List Fact
+abbrev pub script_facts : List (List Order) → List (List Order) → List Seated → List Fact
 script_facts scripts left callers =
-    flat_map (λ (k : ℕ). caller_facts k (slice_get callers k)) (numbers (length scripts) 1) ++ next_facts 1 scripts left
+    flat_map (λ (k : ℕ). caller_facts k (slice_get callers k)) (numbers (length scripts) 1) ++ next_facts scripts left
 
-abbrev pub moment_with : List (List Command) → List (List Command) → List (List Told) → NetState → List Fact
+abbrev pub moment_with : List (List Order) → List (List Order) → List (List Told) → NetState → List Fact
 moment_with scripts left told n =
     settled_facts 1 told ++ flat_map (post_facts n.places) (posts_in told) ++ place_facts n.places
     ++ moving_facts n.packets ++ flat_map member_facts n.places ++ script_facts scripts left n.callers

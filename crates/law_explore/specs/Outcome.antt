@@ -1,6 +1,7 @@
 -- What comes of a race: facts of the end of a history, without the numbers that only tell when: clocks, positions and
--- hops. k is the number of a script, i that of a command, both from 1; ps are places, x is an id, q a port.
-use Rattle.std.specs.Prelude.{ℕ, ◌+◌, Bool, false, ◌||◌, if◌then◌else◌, List, [], ◌∷◌, ◌++◌, map, reverse, Option, Some, None}
+-- hops. k is the number of a script, i that of a command, both from 1; ps are places, x is an id, q a port; all and left
+-- are the commands of a script, and those that are left of it.
+use Rattle.std.specs.Prelude.{ℕ, ◌+◌, ◌-◌, Bool, false, ◌||◌, if◌then◌else◌, List, [], ◌∷◌, ◌++◌, length, map, reverse, Option, Some, None}
 use Rattle.std.specs.List.{flat_map, filter_map}
 use Rattle.std.specs.Option.{option_map, option_or}
 use Rattle.chorus_ui.specs.declared.ui.Ui.{Ui}
@@ -20,7 +21,7 @@ use Rattle.chorus_ports.specs.Table as table
 use Rattle.law_machine.specs.PlaceState.{PlaceState}
 use Rattle.law_explore.specs.Search.{state_after}
 use Rattle.law_explore.specs.declared.moves.Move.{Move}
-use Rattle.law_explore.specs.Races.{Race, Position, Told, replaying}
+use Rattle.law_explore.specs.Races.{Race, Order, Position, Told, replaying}
 
 -- One thing that is so at the end, or at a moment.
 pub data Fact : Type 0 where
@@ -33,6 +34,8 @@ pub data Fact : Type 0 where
   Stale : (message : MsgId) → Fact
   -- the port is held by this actor, and these messages wait in it
   Held : (port actor : Ui) (waiting : List MsgId) → Fact
+  -- Of an end alone: the script did not come to this command, which waits, nor to what stands behind it
+  Stuck : (script number : ℕ) → Fact
   -- Of a moment alone: the command is answered by this act, and it took a reply, which did this to the script's call
   Settled : (script number : ℕ) (act settles : acts.Act) → Fact
   -- the message was posted and is not settled
@@ -53,7 +56,8 @@ pub data Fact : Type 0 where
   Next : (script number : ℕ) → Fact
 
 -- of each script and each command how it was answered; of each message that these posted, and of its copies, the
--- verdict, and that it was told `stale` where it was; and each port that is held, in the order in which each place made them
+-- verdict, and that it was told `stale` where it was; each port that is held, in the order in which each place made them;
+-- and of each script that was not done to its end the command that never came
 abbrev pub Outcome : Type 0
 Outcome = List Fact
 
@@ -149,13 +153,29 @@ port_fact q = Held q.ui q.actor (map (λ (m : Message). m.id) q.pending)
 abbrev pub port_facts : List PlaceState → List Fact
 port_facts ps = filter_map (λ (q : Ui). option_map port_fact (held_in q ps)) (made_at ps)
 
--- It looks at tables and acts alone, at no clock and no merge.
-abbrev pub outcome_with : List (List Told) → List PlaceState → Outcome
-outcome_with told ps = answer_facts 1 told ++ message_facts told ps ++ port_facts ps
+-- Scripts: this fact of the next command of each that has one left, from script k on.
 
-abbrev pub outcome_of : Position → Outcome
-outcome_of s = outcome_with s.told s.net.places
+abbrev pub left_fact : (ℕ → ℕ → Fact) → ℕ → List Order → List Order → List Fact
+left_fact fact k all [] = []
+left_fact fact k all (o ∷ left) = fact k (length all - length left) ∷ []
+
+abbrev pub left_facts : (ℕ → ℕ → Fact) → ℕ → List (List Order) → List (List Order) → List Fact
+left_facts fact k (all ∷ scripts) (left ∷ lefts) =
+    left_fact fact k all left ++ left_facts fact (k + 1) scripts lefts
+left_facts fact k _ _ = []
+
+-- at an end it is stuck there
+abbrev pub stuck_facts : List (List Order) → List (List Order) → List Fact
+stuck_facts scripts left = left_facts Stuck 1 scripts left
+
+-- It looks at tables, acts and scripts alone, at no clock and no merge.
+abbrev pub outcome_with : List (List Order) → List (List Order) → List (List Told) → List PlaceState → Outcome
+outcome_with scripts left told ps =
+    answer_facts 1 told ++ message_facts told ps ++ port_facts ps ++ stuck_facts scripts left
+
+abbrev pub outcome_of : Race → Position → Outcome
+outcome_of r s = outcome_with r.scripts s.left s.told s.net.places
 
 -- what the moves come to
 abbrev pub outcome_after : Race → List Move → Outcome
-outcome_after r ms = outcome_of (state_after (replaying r) ms)
+outcome_after r ms = outcome_of r (state_after (replaying r) ms)

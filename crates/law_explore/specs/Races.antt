@@ -1,7 +1,8 @@
 -- A race: callers with their scripts on a network. Their commands and the deliveries may come in any order that keeps
--- each script's. r is a race, s a position, m and o are moves, i is the number of a script, from 0 on, a and b are
--- numbers of places, l is a layout.
-use Rattle.std.specs.Prelude.{ℕ, suc, ◌==◌, ◌<◌, nat_lt, if◌then◌else◌, Bool, true, false, ◌&&◌, ◌||◌, not, List, [], ◌∷◌, ◌++◌, length, map, Option, Some, None, unwrap_or, slice_get, slice_set}
+-- each script's; a command that waits comes only where it would be answered by a message.
+-- r is a race, s a position, m and o are moves, i is the number of a script, from 0 on, a and b are numbers of places, l
+-- is a layout, n a network, left is what is left of each script.
+use Rattle.std.specs.Prelude.{ℕ, suc, ◌==◌, ◌<◌, nat_lt, if◌then◌else◌, Bool, true, false, ◌&&◌, ◌||◌, not, List, [], ◌∷◌, ◌++◌, length, map, Option, Some, None, is_some, unwrap_or, slice_get, slice_set}
 use Rattle.std.specs.List.{filter}
 use Rattle.std.specs.Option.{option_map}
 use Rattle.chorus_ui.specs.declared.layout.Layout.{Layout}
@@ -21,15 +22,21 @@ use Rattle.law_machine.specs.PlaceState.{Turn}
 use Rattle.law_network.specs.Packets.{AreByLink}
 use Rattle.law_network.specs.Network.{NetState, Event, Enter, Act, Deliver, See, happened, numbers, place_numbers, turn_for}
 use Rattle.law_network.specs.Stands.{actor_of}
+use Rattle.law_awaits.specs.Awaits.{would_take}
 use Rattle.law_explore.specs.declared.moves.Move.{Move}
 use Rattle.law_explore.specs.declared.moves.Move.TheVariants.{Go, Carry}
 use Rattle.law_explore.specs.Neighbours.{command_place, are_apart, is_ready}
 use Rattle.law_explore.specs.Search.{System, IsComplete, IsNormal, ends_from}
 
+-- a command of a script, and whether it waits for a message
+pub record Order : Type 0 where
+  pub command : Command
+  pub waits : Bool
+
 -- the network when all callers have entered, and the scripts; script i is that of seat i + 1
 pub record Race : Type 0 where
   pub net : NetState
-  pub scripts : List (List Command)
+  pub scripts : List (List Order)
 
 -- what answered a command: its own act, and of a reply that was taken, whether it ended the caller's outstanding call
 pub record Told : Type 0 where
@@ -39,29 +46,39 @@ pub record Told : Type 0 where
 -- what is reached: the network; what is left of each script; and what answered its commands, the latest first
 pub record Position : Type 0 where
   pub net : NetState
-  pub left : List (List Command)
+  pub left : List (List Order)
   pub told : List (List Told)
 
-abbrev pub next_of : Option (List Command) → Option Command
+abbrev pub next_of : Option (List Order) → Option Order
 next_of None = None
 next_of (Some []) = None
-next_of (Some (c ∷ cs)) = Some c
+next_of (Some (o ∷ os)) = Some o
 
-abbrev pub behind_next : Option (List Command) → List Command
+abbrev pub behind_next : Option (List Order) → List Order
 behind_next None = []
 behind_next (Some []) = []
-behind_next (Some (c ∷ cs)) = cs
+behind_next (Some (o ∷ os)) = os
 
 -- two different places of the layout
 abbrev pub are_linked : Layout → ℕ → ℕ → Bool
 are_linked l a b = has_place l a && has_place l b && not (a == b)
 
 -- The event that a move is, where `who b` delivers at b.
-abbrev pub event_of : Layout → (ℕ → ℕ) → Move → List (List Command) → Option Event
-event_of l who (Go i) left = option_map (λ (c : Command). Act (suc i) c) (next_of (slice_get left i))
+abbrev pub event_of : Layout → (ℕ → ℕ) → Move → List (List Order) → Option Event
+event_of l who (Go i) left = option_map (λ (o : Order). Act (suc i) o.command) (next_of (slice_get left i))
 event_of l who (Carry a b) left = if are_linked l a b then Some (Deliver (who b) a b) else None
 
-abbrev pub scripts_after : Move → List (List Command) → List (List Command)
+-- Whether it is the time for a move: a command that waits would be answered by a message now.
+
+abbrev pub may_now : Option Order → ℕ → NetState → Bool
+may_now None i n = true
+may_now (Some o) i n = not o.waits || would_take (suc i) o.command n
+
+abbrev pub is_now : Move → List (List Order) → NetState → Bool
+is_now (Go i) left n = may_now (next_of (slice_get left i)) i n
+is_now (Carry a b) left n = true
+
+abbrev pub scripts_after : Move → List (List Order) → List (List Order)
 scripts_after (Go i) left = slice_set left i (behind_next (slice_get left i))
 scripts_after (Carry a b) left = left
 
@@ -119,11 +136,14 @@ are_apart_by None f n = false
 are_apart_by (Some e) None n = false
 are_apart_by (Some e) (Some f) n = are_apart n.layout (actor_of n) e f
 
+-- the move may come where `who b` delivers at b
+abbrev pub may_come_by : Layout → (ℕ → ℕ) → Move → Position → Bool
+may_come_by l who m s = is_ready_by (event_of l who m s.left) s.net && is_now m s.left s.net
+
 abbrev pub are_neighbours : Layout → (ℕ → ℕ) → Move → Move → Position → Bool
 are_neighbours l who m o s =
-    is_ready_by (event_of l who m s.left) s.net
-    && (is_ready_by (event_of l who o s.left) s.net && are_apart_by (event_of l who m s.left)
-    (event_of l who o s.left) s.net)
+    may_come_by l who m s
+    && (may_come_by l who o s && are_apart_by (event_of l who m s.left) (event_of l who o s.left) s.net)
 
 -- scripts by their numbers, and behind them deliveries by their places
 abbrev pub is_less : Move → Move → Bool
@@ -133,7 +153,7 @@ is_less (Carry a b) (Go j) = false
 is_less (Carry a b) (Carry c d) = nat_lt a c || ((a == c) && nat_lt b d)
 
 abbrev pub start_of : Race → Position
-start_of r = record { net = r.net; left = r.scripts; told = map (λ (cs : List Command). []) r.scripts }
+start_of r = record { net = r.net; left = r.scripts; told = map (λ (os : List Order). []) r.scripts }
 
 -- The race where `who` delivers.
 abbrev pub racing : Race → (ℕ → ℕ) → System Position Move
@@ -141,7 +161,7 @@ racing r who =
     record {
       start = start_of r;
       step = λ m s. position_after (event_of r.net.layout who m s.left) m s;
-      ready = λ m s. is_ready_by (event_of r.net.layout who m s.left) s.net;
+      ready = may_come_by r.net.layout who;
       apart = are_neighbours r.net.layout who;
       less = is_less;
     }
@@ -157,16 +177,20 @@ abbrev pub are_of_one_script : Move → Move → Bool
 are_of_one_script (Go i) (Go j) = i == j
 are_of_one_script _ _ = false
 
-abbrev pub place_with : Option Command → ℕ → NetState → ℕ
+abbrev pub place_with : Option Order → ℕ → NetState → ℕ
 place_with None i n = 0
-place_with (Some c) i n = command_place n.layout c (actor_of n (suc i))
+place_with (Some o) i n = command_place n.layout o.command (actor_of n (suc i))
 
 abbrev pub place_of_move : Move → Position → ℕ
 place_of_move (Go i) s = place_with (next_of (slice_get s.left i)) i s.net
 place_of_move (Carry a b) s = b
 
 abbrev pub may_come : Layout → Move → Position → Bool
-may_come l m s = is_ready_by (event_of l seat_0 m s.left) s.net
+may_come l m s = may_come_by l seat_0 m s
+
+-- a command is left of script i, and may come
+abbrev pub may_script : ℕ → Position → Bool
+may_script i s = is_some (next_of (slice_get s.left i)) && may_now (next_of (slice_get s.left i)) i s.net
 
 abbrev pub meet_nowhere : Layout → Move → Move → Position → Bool
 meet_nowhere l m o s =
@@ -192,7 +216,7 @@ abbrev pub links_between : List ℕ → List ℕ → List Move
 links_between [] bs = []
 links_between (a ∷ rest) bs = links_to a bs ++ links_between rest bs
 
-abbrev pub all_moves : Layout → List (List Command) → List Move
+abbrev pub all_moves : Layout → List (List Order) → List Move
 all_moves l left = map Go (numbers (length left) 0) ++ links_between (place_numbers l) (place_numbers l)
 
 abbrev pub next_moves : Race → Position → List Move

@@ -44,7 +44,8 @@ pub fn races_are_walked()
 {}
 
 /// Of two neighbours, where the one brings nothing new behind the other, it brings nothing new before it, and the other
-/// may still come: so what was seen of a move behind its neighbour is known of it alone.
+/// may still come: so what was seen of a move behind its neighbour is known of it alone. It is so only where the command
+/// behind the one in its script does not wait, since the other may take away what that would wait for.
 pub fn neighbours_stay_quiet()
     ensures { NeighboursStayQuiet }
 {}

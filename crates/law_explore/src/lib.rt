@@ -1,5 +1,5 @@
 //! The laws of races: what may come of the commands of several scripts, and of the deliveries between places, in any
-//! order.
+//! order. A command that waits comes only where it would be answered by a message.
 //!
 //! A layer that goes over the schedules of a race rests on this: behind positions that are alike
 //! (`specs/Positions.antt`) the same comes, so histories that come to such may be put together, level by level

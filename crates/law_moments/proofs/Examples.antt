@@ -1,7 +1,7 @@
 -- What is read of a past that is written out: computed.
 -- Seat 1 calls the port of seat 2 and leaves a message in it, seat 2 takes the request and replies, and seat 1 takes the reply, which ends its call; a
 -- second reply comes too late. Then seat 2 sends its port to the other site, where it did not arrive.
-use Rattle.std.proofs.Common.{ℕ, ◌≡◌, List, [], ◌∷◌, Some, None, refl}
+use Rattle.std.proofs.Common.{ℕ, ◌≡◌, true, false, List, [], ◌∷◌, Some, None, refl}
 use Rattle.chorus_ui.specs.declared.kind.Kind.TheVariants as kinds
 use Rattle.chorus_ui.specs.declared.layout.Layout.{Layout}
 use Rattle.chorus_ui.specs.declared.ui.Ui.{Ui}
@@ -19,7 +19,8 @@ use Rattle.chorus_entry.specs.declared.packet.Packet.{Packet}
 use Rattle.chorus_entry.specs.declared.record.PortRecord.{PortRecord}
 use Rattle.chorus_entry.specs.declared.tag.Tag.{Tag}
 use Rattle.chorus_entry.specs.declared.tag.Tag.TheVariants as tags
-use Rattle.law_explore.specs.Outcome.{Accepted, Answered, Calls, Held, Holds, Judged, Moving, Next, Open, Settled}
+use Rattle.law_explore.specs.Outcome.{Accepted, Answered, Calls, Held, Holds, Judged, Moving, Next, Open, Settled, Stuck}
+use Rattle.law_explore.specs.Races.{Order}
 use Rattle.law_moments.specs.Answers.{told_as, told_of}
 use Rattle.law_moments.specs.Read.{moment_read, outcome_read}
 
@@ -85,10 +86,16 @@ moved = record { ui = desk; actor = away; capacity = 2; hop = 1; first = 1; pend
 abbrev rest : List Packet
 rest = record { clock = 12; from = 1; cargo = cargos.Transfer moved } ∷ []
 
-abbrev scripts : List (List Command)
+abbrev now : Command → Order
+now command = record { command = command; waits = false }
+
+abbrev waits : Ui → Order
+waits q = record { command = commands.Take q; waits = true }
+
+abbrev scripts : List (List Order)
 scripts =
-    (commands.Call desk back [] ∷ commands.Send (dests.Port desk) [] ∷ commands.Take back ∷ [])
-    ∷ (commands.Take desk ∷ commands.Reply [] ∷ commands.Move desk away ∷ commands.Take desk ∷ []) ∷ []
+    (now (commands.Call desk back []) ∷ now (commands.Send (dests.Port desk) []) ∷ waits back ∷ [])
+    ∷ (waits desk ∷ now (commands.Reply []) ∷ now (commands.Move desk away) ∷ waits desk ∷ []) ∷ []
 
 -- a moment: the port is under way, script 2 has a command left, and no call is outstanding
 pub moment : moment_read l scripts past rest ≡
@@ -112,8 +119,9 @@ pub opened : moment_read l scripts (by 2 6 (acts.Take desk 0 (id 1 1)) ∷ by 1 
     ∷ Held desk clerk [] ∷ Held back clerk [] ∷ Accepted desk (id 1 1 ∷ []) ∷ Accepted back [] ∷ Calls 1 1 ∷ Holds 2 1 1 ∷ Next 1 3 ∷ Next 2 2 ∷ []
 opened = refl
 
-pub outcome : outcome_read l 2 replied ≡
+-- as an outcome, both scripts are stuck there
+pub outcome : outcome_read l scripts replied ≡
     Answered 1 1 asks ∷ Answered 1 2 sends ∷ Answered 2 1 (acts.Take desk 0 (id 1 1)) ∷ Answered 2 2 replies
     ∷ Judged (id 1 1) (Some (answers.Accepted 0)) ∷ Judged (id 1 2) (Some (answers.Accepted 0)) ∷ Judged (id 2 1) (Some (answers.Accepted 0))
-    ∷ Held desk clerk (id 1 2 ∷ []) ∷ Held back clerk (id 2 1 ∷ []) ∷ []
+    ∷ Held desk clerk (id 1 2 ∷ []) ∷ Held back clerk (id 2 1 ∷ []) ∷ Stuck 1 3 ∷ Stuck 2 3 ∷ []
 outcome = refl

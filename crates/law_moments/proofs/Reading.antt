@@ -11,7 +11,7 @@ use Rattle.law_network.specs.Stands.{Stands}
 use Rattle.law_network.proofs.Events.InOrder.{in-order}
 use Rattle.law_network.proofs.Places.Layouts.{schedule-keeps}
 use Rattle.law_explore.specs.Moment.{accept_facts, member_facts, next_facts, post_facts, settled_facts}
-use Rattle.law_explore.specs.Outcome.{Fact, answer_facts, message_facts, port_facts, posts_in}
+use Rattle.law_explore.specs.Outcome.{Fact, answer_facts, message_facts, port_facts, posts_in, stuck_facts}
 use Rattle.law_explore.specs.Races.{Told}
 use Rattle.law_moments.specs.Answers.{told_in}
 use Rattle.law_moments.specs.Read.{MomentsAreRead, OutcomesAreRead, left_behind, places_read, ports_read}
@@ -27,15 +27,15 @@ module _ (l : Layout) (n : NetState) (hist : List Entry) (s : Stands n hist) (la
   messages-read told = read-as (message_facts told) (message_facts told) (messages-same told n.places)
 
 pub outcomes-are-read : OutcomesAreRead
-outcomes-are-read l es count shape may =
+outcomes-are-read l es scripts shape may =
     let n = schedule l es in
     let s = (in-order l es shape may).0 in
     let hist = history l es in
     let layout = (schedule-keeps l es).layout in
-    let told = told_in count (merged_past (schedule l es)) in
+    let told = told_in (length scripts) (merged_past (schedule l es)) in
     let messages = messages-read l n hist s layout told in
     let ports = read-as l n hist s layout (ports_read (merged_past n)) port_facts (ports-are n hist s) in
-    λ i. answer_facts 1 told ++ messages i ++ ports i
+    λ i. answer_facts 1 told ++ messages i ++ ports i ++ stuck_facts scripts (left_behind scripts told)
 
 pub moments-are-read : MomentsAreRead
 moments-are-read l es scripts shape may =
@@ -51,4 +51,4 @@ moments-are-read l es scripts shape may =
     let members = read-as l n hist s layout (flat_map member_facts) (flat_map member_facts) (members-same n.places) in
     let callers = callers-are n hist s (numbers (length scripts) 1) in
     let moving = moving-are n.packets in
-    λ i. settled_facts 1 told ++ posts i ++ (ports i ++ accepted i) ++ moving i ++ members i ++ (callers i ++ next_facts 1 scripts (left_behind scripts told))
+    λ i. settled_facts 1 told ++ posts i ++ (ports i ++ accepted i) ++ moving i ++ members i ++ (callers i ++ next_facts scripts (left_behind scripts told))

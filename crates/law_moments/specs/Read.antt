@@ -6,7 +6,6 @@ use Rattle.std.specs.List.{flat_map, filter_map}
 use Rattle.chorus_ui.specs.declared.layout.Layout.{Layout}
 use Rattle.chorus_ui.specs.declared.ui.Ui.{Ui}
 use Rattle.chorus_ui.specs.Layout.{IsLayout}
-use Rattle.chorus_entry.specs.declared.command.Command.{Command}
 use Rattle.chorus_entry.specs.declared.entry.Entry.{Entry}
 use Rattle.chorus_entry.specs.declared.packet.Packet.{Packet}
 use Rattle.chorus_world.specs.Ports.{PortState, fate}
@@ -19,8 +18,8 @@ use Rattle.law_network.specs.Left.{merged_past, packets_left}
 use Rattle.law_network.specs.Network.{Event, numbers, place_numbers, schedule}
 use Rattle.law_network.specs.Records.{outstanding}
 use Rattle.law_network.specs.Schedules.{may_be}
-use Rattle.law_explore.specs.Races.{Told}
-use Rattle.law_explore.specs.Outcome.{Fact, Outcome, Held, answer_facts, made_at, message_facts, outcome_with, posts_in}
+use Rattle.law_explore.specs.Races.{Order, Told}
+use Rattle.law_explore.specs.Outcome.{Fact, Outcome, Held, answer_facts, made_at, message_facts, outcome_with, posts_in, stuck_facts}
 use Rattle.law_explore.specs.Moment.{accept_facts, call_facts, hand_facts, member_facts, moment_with, moving_in, next_facts, post_facts, settled_facts}
 use Rattle.law_moments.specs.Answers.{answered_by, told_in, told_of}
 
@@ -56,25 +55,25 @@ abbrev pub moving_read : List Packet → List Fact
 moving_read rest = flat_map (λ (packet : Packet). moving_in packet.cargo) rest
 
 -- what is left of scripts of which so many commands were answered
-abbrev pub left_behind : List (List Command) → List (List Told) → List (List Command)
-left_behind (commands ∷ scripts) (told ∷ rest) = drop (length told) commands ∷ left_behind scripts rest
+abbrev pub left_behind : List (List Order) → List (List Told) → List (List Order)
+left_behind (orders ∷ scripts) (told ∷ rest) = drop (length told) orders ∷ left_behind scripts rest
 left_behind _ _ = []
 
--- An outcome of so many scripts.
-abbrev pub outcome_read : Layout → ℕ → List Entry → Outcome
-outcome_read l count past =
-    let told = told_in count past in
+-- An outcome of these scripts.
+abbrev pub outcome_read : Layout → List (List Order) → List Entry → Outcome
+outcome_read l scripts past =
+    let told = told_in (length scripts) past in
     let ps = places_read l past in
-    answer_facts 1 told ++ message_facts told ps ++ ports_read past ps
+    answer_facts 1 told ++ message_facts told ps ++ ports_read past ps ++ stuck_facts scripts (left_behind scripts told)
 
 -- A moment of these scripts.
-abbrev pub moment_read : Layout → List (List Command) → List Entry → List Packet → List Fact
+abbrev pub moment_read : Layout → List (List Order) → List Entry → List Packet → List Fact
 moment_read l scripts past rest =
     let told = told_in (length scripts) past in
     let ps = places_read l past in
     settled_facts 1 told ++ flat_map (post_facts ps) (posts_in told) ++ (ports_read past ps ++ accept_facts ps)
     ++ moving_read rest ++ flat_map member_facts ps
-    ++ (flat_map (caller_read past) (numbers (length scripts) 1) ++ next_facts 1 scripts (left_behind scripts told))
+    ++ (flat_map (caller_read past) (numbers (length scripts) 1) ++ next_facts scripts (left_behind scripts told))
 
 -- What is read of a schedule's network is what answered the commands, and what is told of the network.
 
@@ -85,13 +84,14 @@ AnswersAreRead =
 
 abbrev pub OutcomesAreRead : Type 0
 OutcomesAreRead =
-    (l : Layout) (es : List Event) (count : ℕ) → IsLayout l → may_be l es ≡ true →
+    (l : Layout) (es : List Event) (scripts : List (List Order)) → IsLayout l → may_be l es ≡ true →
     let n = schedule l es in
-    outcome_read l count (merged_past n) ≡ outcome_with (told_in count (merged_past n)) n.places
+    let told = told_in (length scripts) (merged_past n) in
+    outcome_read l scripts (merged_past n) ≡ outcome_with scripts (left_behind scripts told) told n.places
 
 abbrev pub MomentsAreRead : Type 0
 MomentsAreRead =
-    (l : Layout) (es : List Event) (scripts : List (List Command)) → IsLayout l → may_be l es ≡ true →
+    (l : Layout) (es : List Event) (scripts : List (List Order)) → IsLayout l → may_be l es ≡ true →
     let n = schedule l es in
     let told = told_in (length scripts) (merged_past n) in
     moment_read l scripts (merged_past n) (packets_left n) ≡ moment_with scripts (left_behind scripts told) told n

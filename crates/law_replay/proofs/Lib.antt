@@ -11,3 +11,4 @@ pub mod Wearing
 pub mod Stays
 pub mod Steps
 pub mod Shown
+pub mod Stuck

@@ -1,7 +1,7 @@
 //! The laws of what is replayed.
 
 ghost use Rattle.law_replay.specs.Claims.{ClaimsAreReadOver};
-ghost use Rattle.law_replay.specs.Shown.{ScheduleShowsItsOutcome};
+ghost use Rattle.law_replay.specs.Shown.{ScheduleIsStuckThere, ScheduleShowsItsOutcome};
 ghost use Rattle.law_replay.specs.Version.{ClosesTheSame, MergesTheSame, SaysTheSame, WritesTheSame};
 
 /// A text of version 1 is replayed the same on 8 and on 16 sites of one place each.
@@ -17,11 +17,13 @@ pub fn version_one_stays()
     ensures writes { WritesTheSame }
 {}
 
-/// Put into the scenario in place of its schedule, the moves of a history that leaves no command and no packet are replayed to the network
-/// that they come to: its journals, its packets and its ports are those that are closed. Each step performs the next command of its
-/// script, each delivery finds its packet, no command is left behind the schedule, and the last drain finds nothing.
+/// Put into the scenario in place of its schedule, the moves of a history that leaves no packet, and behind which no script's next
+/// command may come, are replayed to the network that they come to: its journals, its packets and its ports are those that are closed
+/// (`closes`). Each step performs the next command of its script, each delivery finds its packet, behind the schedule no script goes on,
+/// and the last drain finds nothing. The scripts that are stuck then are those that the outcome tells (`stuck`).
 pub fn a_schedule_shows_its_outcome()
-    ensures { ScheduleShowsItsOutcome }
+    ensures closes { ScheduleShowsItsOutcome }
+    ensures stuck { ScheduleIsStuckThere }
 {}
 
 /// Claims are read over: whatever a scenario claims, its replay does the same, one task after the other, and its race, which is explored,

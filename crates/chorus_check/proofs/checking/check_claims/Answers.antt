@@ -1,7 +1,7 @@
-use Rattle.std.proofs.Common.{◌≡◌, List, map, sym, ◌∙◌, ap, subst}
+use Rattle.std.proofs.Common.{◌≡◌, List, map, ◌∙◌, ap, subst}
 use Rattle.chorus_claims.specs.Pieces.{Claim}
 use Rattle.chorus_claims.specs.Shapes.{claim_of}
-use Rattle.chorus_explore.specs.Checked.{facts_behind, facts_in, verdicts_of}
+use Rattle.chorus_explore.specs.Checked.{facts_in, verdicts_of}
 use Rattle.chorus_check.specs.Ends.{AreChecked}
 use Rattle.chorus_check.specs.Texts.{check_text}
 use Rattle.chorus_check.specs.Words.{checked_of, claims_of}

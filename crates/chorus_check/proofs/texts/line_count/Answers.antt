@@ -1,4 +1,4 @@
-use Rattle.std.proofs.Common.{◌+◌, arith}
+use Rattle.std.proofs.Common.{arith}
 use Rattle.chorus_check.proofs.Counting.{line-ends, line-goes-on}
 use Rattle.chorus_check.proofs.texts.line_count.Goals.{then-byte-eq10, else-byte-eq10}
 use Rattle.chorus_check.proofs.texts.line_count.Goals as goal

@@ -15,8 +15,8 @@ pub returns : goal.returns
 returns c =
     facts-text c.args.scenario.now c.args.self.now c.requires.reached c.requires.asks
     c.in_ok-text.text.items c.push_answers.new.text.items c.push_all_posts.new.text.items c.push_ports.new.text.items
-    c.push_under_way.new.text.items c.push_groups.new.text.items c.push_callers.new.text.items c.push_next_commands.new.text.items
+    c.push_under_way.new.text.items c.push_groups.new.text.items c.push_callers.new.text.items c.push_left.new.text.items
     c.deref.result.now c.deref-2.result.now c.places-places.result.now c.callers.result.now _
     c.in_ok-text.ensures.items c.in_ok-push_answers.ensures c.in_ok-push_all_posts.ensures c.in_ok-push_ports.ensures
-    c.in_ok-push_under_way.ensures c.in_ok-push_groups.ensures c.in_ok-push_callers.ensures c.in_ok-push_next_commands.ensures
+    c.in_ok-push_under_way.ensures c.in_ok-push_groups.ensures c.in_ok-push_callers.ensures c.in_ok-push_left.ensures
     c.deref.ensures.value c.deref-2.ensures.value c.places-places.ensures.value c.callers.ensures (ap length c.scripts.ensures)

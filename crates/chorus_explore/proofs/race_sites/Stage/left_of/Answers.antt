@@ -1,10 +1,9 @@
 use Rattle.std.proofs.Common.{ℕ, ◌≡◌, ◌<◌, length, slice_get, Some, refl, sym, ◌∙◌, ap, ap₂, arith}
 use Rattle.std.specs.Option.{option_copied}
 use Rattle.std.proofs.lemmas.Option.{slice_get_read}
-use Rattle.law_explore.specs.Races.{next_of}
-use Rattle.chorus_explore.specs.Stages.{moves_of, position}
+use Rattle.chorus_explore.specs.Stages.{moves_of, next_command}
 use Rattle.chorus_explore.proofs.Adding.{found-next, found-none, lent-at}
-use Rattle.chorus_explore.proofs.Moving.{as-many, left-is}
+use Rattle.chorus_explore.proofs.Moving.{as-many, next-command}
 use Rattle.chorus_explore.proofs.race_sites.Stage.left_of.Goals as goal
 
 pub index-requires : goal.index-requires
@@ -24,9 +23,9 @@ returns-clause-some c =
     let script : slice_get scene.scripts i ≡ Some c.index-scripts-from.result =
     sym (ap₂ (λ xs (n : ℕ). slice_get xs n) c.scripts.ensures c.from.ensures) ∙ slice_get_read _ _ _ _ refl lt c.index-scripts-from.is in
     let progress : slice_get s.scripts.items i ≡ Some c.index.result.now = ap (λ (n : ℕ). slice_get s.scripts.items n) (sym c.from-2.ensures) ∙ slice_get_read _ _ _ _ refl below c.index.ensures in
-    let all : option_copied c.get.result ≡ next_of (slice_get (position scene (moves_of s)).left i) =
+    let all : option_copied c.get.result ≡ next_command scene (moves_of s) i =
     lent-at c.commands.result.now c.index.result.now.next c.get.result c.get.ensures.lookup ∙ ap (λ ds. slice_get ds c.index.result.now.next) c.commands.ensures
-    ∙ sym (left-is scene s c.requires.reached i c.index-scripts-from.result c.index.result.now script progress) in
+    ∙ sym (next-command scene s c.requires.reached i c.index-scripts-from.result c.index.result.now script progress) in
     found-next scene (moves_of s) i c.get.result all
 
 pub returns-clause-none : goal.returns-clause-none
@@ -39,7 +38,7 @@ returns-clause-none c = λ none.
     let script : slice_get scene.scripts i ≡ Some c.index-scripts-from.result =
     sym (ap₂ (λ xs (n : ℕ). slice_get xs n) c.scripts.ensures c.from.ensures) ∙ slice_get_read _ _ _ _ refl lt c.index-scripts-from.is in
     let progress : slice_get s.scripts.items i ≡ Some c.index.result.now = ap (λ (n : ℕ). slice_get s.scripts.items n) (sym c.from-2.ensures) ∙ slice_get_read _ _ _ _ refl below c.index.ensures in
-    let all : option_copied c.get.result ≡ next_of (slice_get (position scene (moves_of s)).left i) =
+    let all : option_copied c.get.result ≡ next_command scene (moves_of s) i =
     lent-at c.commands.result.now c.index.result.now.next c.get.result c.get.ensures.lookup ∙ ap (λ ds. slice_get ds c.index.result.now.next) c.commands.ensures
-    ∙ sym (left-is scene s c.requires.reached i c.index-scripts-from.result c.index.result.now script progress) in
+    ∙ sym (next-command scene s c.requires.reached i c.index-scripts-from.result c.index.result.now script progress) in
     found-none scene (moves_of s) i c.get.result all none

@@ -24,7 +24,7 @@ pub returns-in_err-at-clause-worn : goal.returns-in_err-at-clause-worn
 returns-in_err-at-clause-worn c clock is =
     let p = err_from_is_err_and c.from_residual.result c.from_residual.ensures.1 in
     let worn = c.act_at.ensures.worn clock (exit c.from_residual.result c.act_at.result _ p.0 _ p.1 p.2 c.in_err-at.was is) in
-    wears-next c.args.scenario.now c.args.self.now c.args.index c.args.command.now c.from.result clock c.requires.reached c.requires.next c.from.ensures worn.1 worn.0
+    wears-next c.args.scenario.now c.args.self.now c.args.index c.args.command.now c.from.result clock c.requires.reached c.requires.next c.requires.comes c.from.ensures worn.1 worn.0
 
 pub journal-requires : goal.journal-requires
 journal-requires c =

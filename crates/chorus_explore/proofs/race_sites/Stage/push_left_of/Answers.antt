@@ -5,12 +5,12 @@ use Rattle.std.proofs.lemmas.Result.{on_ok_weaker}
 use Rattle.chorus_explore.proofs.Answering.{next-few}
 use Rattle.chorus_explore.proofs.Facts.{line-next, line-none}
 use Rattle.chorus_explore.proofs.Moving.{as-many}
-use Rattle.chorus_explore.proofs.race_sites.Stage.push_next_command.Goals as goal
+use Rattle.chorus_explore.proofs.race_sites.Stage.push_left_of.Goals as goal
 
 pub returns-in_default : goal.returns-in_default
 returns-in_default c =
     sym (append-nil c.args.text.now.items)
-    ∙ sym (ap (λ xs. c.args.text.now.items ++ xs) (line-none c.args.scenario.now c.args.self.now c.requires.reached c.args.index c.requires.index (c.in_default.ensures.none refl)))
+    ∙ sym (ap (λ xs. c.args.text.now.items ++ xs) (line-none c.args.scenario.now c.args.self.now c.requires.reached c.args.index c.requires.index c.args.ended (c.in_default.ensures.none refl)))
 
 pub index-requires : goal.index-requires
 index-requires c =
@@ -32,6 +32,6 @@ returns c =
     let s = c.args.self.now in
     let below : c.args.index < length s.scripts.items = (let n = as-many scene s c.requires.reached in let lt = c.requires.index in omega (arith, n, lt)) in
     let found : slice_get s.scripts.items c.args.index ≡ Some c.index.result.now = slice_get_read _ _ _ _ refl below c.index.ensures in
-    on_ok_weaker c.push_next.result
-    (λ told. told ∙ sym (ap (λ xs. c.args.text.now.items ++ xs) (line-next scene s c.requires.reached c.args.index c.requires.index _ c.index.result.now c.in-Some.ensures.some found)))
-    c.push_next.ensures
+    on_ok_weaker c.push_next_line.result
+    (λ told. told ∙ sym (ap (λ xs. c.args.text.now.items ++ xs) (line-next scene s c.requires.reached c.args.index c.requires.index c.args.ended _ c.index.result.now c.in-Some.ensures.some found)))
+    c.push_next_line.ensures
