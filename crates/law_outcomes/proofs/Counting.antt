@@ -17,7 +17,7 @@ use Rattle.law_network.specs.Packets.{first_on}
 use Rattle.law_network.proofs.Merge.Parts.{All-reverse}
 use Rattle.law_explore.specs.declared.moves.Move.{Move}
 use Rattle.law_explore.specs.declared.moves.Move.TheVariants.{Go, Carry}
-use Rattle.law_explore.specs.Races.{Position, Told, are_linked, is_ready_by, next_of, own_by, position_after, replaying, told_in, with_answer}
+use Rattle.law_explore.specs.Races.{Order, Position, Told, are_linked, event_of, is_now, is_ready_by, may_come, next_of, own_by, position_after, replaying, seat_0, told_in, with_answer}
 use Rattle.law_explore.specs.Replays.{events_of}
 use Rattle.law_explore.specs.Search.{IsHistory}
 use Rattle.law_moments.specs.Answers.{answered_by}
@@ -104,24 +104,27 @@ module _ (c : Scene) where
         let more = length-append (served b (slice_get n.callers 0) (first_on a b n.packets)) (worked_off c.layout (events c ms)) in
         omega (arith, one, more, ih)
 
-    gone : (h : IsHistory (replaying (race_of c)) ms) (j : ℕ) (o : Option Command) → next_of (slice_get s.left j) ≡ o
-        → is_ready_by (option_map (λ (d : Command). Act (suc j) d) o) s.net ≡ true → After (option_map (λ (d : Command). Act (suc j) d) o) (Go j)
+    gone : (h : IsHistory (replaying (race_of c)) ms) (j : ℕ) (o : Option Order) → next_of (slice_get s.left j) ≡ o
+        → is_ready_by (option_map (λ (x : Order). Act (suc j) x.command) o) s.net ≡ true → After (option_map (λ (x : Order). Act (suc j) x.command) o) (Go j)
     gone h j None e ready = absurd (false≢true ready)
     gone h j (Some d) e ready = by (slice_get c.scripts j) refl (slice_get s.net.callers (suc j)) refl (and_parts (is_some (slice_get s.net.callers (suc j))) true ready).0
       where
-        by : (o : Option Script) → slice_get c.scripts j ≡ o → (w : Option Seated) → slice_get s.net.callers (suc j) ≡ w → is_some w ≡ true → After (Some (Act (suc j) d)) (Go j)
+        by : (o : Option Script) → slice_get c.scripts j ≡ o → (w : Option Seated) → slice_get s.net.callers (suc j) ≡ w → is_some w ≡ true → After (Some (Act (suc j) d.command)) (Go j)
         by None none w f some = absurd (let n = ap next_of (sym (left-none c j ms h none)) ∙ e in cc)
         by (Some script) there None f some = absurd (false≢true some)
-        by (Some script) there (Some w) f some = answered j d (answered_by c.layout (suc j) (events c ms)) w (told-at c ms j script there) f
+        by (Some script) there (Some w) f some = answered j d.command (answered_by c.layout (suc j) (events c ms)) w (told-at c ms j script there) f
 
     carried : (a b : ℕ) (q : Bool) → is_ready_by (cond q (Some (Deliver 0 a b)) None) s.net ≡ true → After (cond q (Some (Deliver 0 a b)) None) (Carry a b)
     carried a b false ready = absurd (false≢true ready)
     carried a b true ready = delivered a b ready
+
+  ready-of : (m : Move) (ms : List Move) → may_come (race_of c).net.layout m (position c ms) ≡ true → is_ready_by (event_of (race_of c).net.layout seat_0 m (position c ms).left) (position c ms).net ≡ true
+  ready-of m ms h = (and_parts (is_ready_by (event_of (race_of c).net.layout seat_0 m (position c ms).left) (position c ms).net) (is_now m (position c ms).left (position c ms).net) h).0
 
   pub counted : (ms : List Move) → IsHistory (replaying (race_of c)) ms → Counted ms
   counted [] h =
       let none = none-in (race_of c).scripts in
       let first = ap length (idle-first c) in
       omega (arith, none, first)
-  counted (Go j ∷ ms) h = gone ms (counted ms h.1) h.1 j (next_of (slice_get (position c ms).left j)) refl h.0
-  counted (Carry a b ∷ ms) h = carried ms (counted ms h.1) a b (are_linked (race_of c).net.layout a b) h.0
+  counted (Go j ∷ ms) h = gone ms (counted ms h.1) h.1 j (next_of (slice_get (position c ms).left j)) refl (ready-of (Go j) ms h.0)
+  counted (Carry a b ∷ ms) h = carried ms (counted ms h.1) a b (are_linked (race_of c).net.layout a b) (ready-of (Carry a b) ms h.0)

@@ -27,7 +27,7 @@ use Rattle.chorus_show.specs.Phrases.{id_text, phrase, spaced}
 use Rattle.chorus_show.specs.Reading.{act_in, act_of, answer_in, below, decision_of, entry_in, entry_of, first, four, fourth, id_in, id_in_parts, id_of, lacks, news_of, parts, port_of, rest, second, third, three, two, u16_in, u32_in}
 use Rattle.chorus_show.proofs.LineBack.{entry_back, entry_line, first_part, lacks_join, lines_tell_entries, one_part}
 use Rattle.law_explore.specs.Outcome as facts
-use Rattle.law_explore.specs.Outcome.{Answered, Calls, Copied, Fact, Held, Judged, Members, Moving, Next, Open, Settled, Stale, plain_act, plain_answer}
+use Rattle.law_explore.specs.Outcome.{Answered, Calls, Copied, Fact, Held, Judged, Members, Moving, Next, Open, Settled, Stale, Stuck, plain_act, plain_answer}
 use Rattle.explore_report.specs.Facts.{fact_line, outcome_lines, plain_act_text, plain_answer_text, verdict_text}
 use Rattle.law_outcomes.specs.Facts.{IsPlain, IsSettling, IsTake, TextsTellOutcomes}
 
@@ -423,6 +423,7 @@ fact_text (Answered k i act) = phrase (codes "answer") (decimal k ∷ decimal i 
 fact_text (Judged x verdict) = phrase (codes "verdict") (id_text x ∷ verdict_text verdict ∷ [])
 fact_text (Stale x) = phrase (codes "stale") (id_text x ∷ [])
 fact_text (Held q actor waiting) = phrase (codes "port") (name_text q ∷ name_text actor ∷ map id_text waiting)
+fact_text (Stuck k i) = phrase (codes "stuck") (decimal k ∷ decimal i ∷ [])
 fact_text (Settled k i act settles) = phrase (codes "answer") (decimal k ∷ decimal i ∷ plain_act_text act ∷ act_text settles ∷ [])
 fact_text (Open x) = phrase (codes "open") (id_text x ∷ [])
 fact_text (Copied x q) = phrase (codes "copy") (id_text x ∷ name_text q ∷ [])
@@ -438,6 +439,7 @@ line-is (Answered k i act) = refl
 line-is (Judged x verdict) = refl
 line-is (Stale x) = refl
 line-is (Held q actor waiting) = refl
+line-is (Stuck k i) = refl
 line-is (Settled k i act settles) = refl
 line-is (Open x) = refl
 line-is (Copied x q) = refl
@@ -487,6 +489,7 @@ one-line (Answered k i act) h = phrase-lacks (codes "answer") (decimal k ∷ dec
 one-line (Judged x verdict) h = phrase-lacks (codes "verdict") (id_text x ∷ verdict_text verdict ∷ []) refl (id-lacks 10 line_end x h.0, (verdict-line verdict h.1, tt))
 one-line (Stale x) h = phrase-lacks (codes "stale") (id_text x ∷ []) refl (id-lacks 10 line_end x h, tt)
 one-line (Held q actor waiting) h = phrase-lacks (codes "port") (name_text q ∷ name_text actor ∷ map id_text waiting) refl (name-lacks 10 line_end q h.0, (name-lacks 10 line_end actor h.1, ids-lack 10 line_end waiting h.2))
+one-line (Stuck k i) h = phrase-lacks (codes "stuck") (decimal k ∷ decimal i ∷ []) refl (small 10 line_end k h.0, (small 10 line_end i h.1, tt))
 one-line (Settled k i act settles) h =
     phrase-lacks (codes "answer") (decimal k ∷ decimal i ∷ plain_act_text act ∷ act_text settles ∷ []) refl
     (small 10 line_end k h.0, (small 10 line_end i h.1, (take-line act h.2, (settles-line settles h.3, tt))))
@@ -514,6 +517,7 @@ fact_of w ws =
     if bytes_eq w (codes "verdict") then option_map (λ (p : MsgId × Option Answer). Judged p.0 p.1) (two (id_in (first ws)) (verdict_in (rest ws)))
     else if bytes_eq w (codes "stale") then option_map Stale (id_in (first ws))
     else if bytes_eq w (codes "port") then option_map (λ (p : Ui × Ui × List MsgId). Held p.0 p.1 p.2) (three (parse_name (first ws)) (parse_name (second ws)) (all_in id_in (rest (rest ws))))
+    else if bytes_eq w (codes "stuck") then option_map (λ (p : ℕ × ℕ). Stuck p.0 p.1) (two (parse_decimal (first ws)) (parse_decimal (second ws)))
     else if bytes_eq w (codes "open") then option_map Open (id_in (first ws))
     else if bytes_eq w (codes "copy") then option_map (λ (p : MsgId × Ui). Copied p.0 p.1) (two (id_in (first ws)) (parse_name (second ws)))
     else if bytes_eq w (codes "accepted") then option_map (λ (p : Ui × List MsgId). facts.Accepted p.0 p.1) (two (parse_name (first ws)) (all_in id_in (rest ws)))
@@ -559,6 +563,9 @@ fact-back (Stale x) n h = by-words (codes "stale") (id_text x ∷ []) refl (id-l
 fact-back (Held q a xs) n h =
     by-words (codes "port") (name_text q ∷ name_text a ∷ map id_text xs) refl (name-lacks 32 space q h.0, (name-lacks 32 space a h.1, ids-lack 32 space xs h.2))
     ∙ (λ i. option_map (λ (p : Ui × Ui × List MsgId). Held p.0 p.1 p.2) (three (parse_name-name_text q h.0 i) (parse_name-name_text a h.1 i) (ids-back xs h.2 i)))
+fact-back (Stuck k i) n h =
+    by-words (codes "stuck") (decimal k ∷ decimal i ∷ []) refl (small 32 space k h.0, (small 32 space i h.1, tt))
+    ∙ ap₂ (λ a b. option_map (λ (p : ℕ × ℕ). Stuck p.0 p.1) (two a b)) (number-back k h.0) (number-back i h.1)
 fact-back (Open x) n h = by-words (codes "open") (id_text x ∷ []) refl (id-lacks 32 space x h, tt) ∙ ap (option_map Open) (id-back x h)
 fact-back (Copied x q) n h =
     by-words (codes "copy") (id_text x ∷ name_text q ∷ []) refl (id-lacks 32 space x h.0, (name-lacks 32 space q h.1, tt))
@@ -613,6 +620,7 @@ view (Settled k i a s) n h = record { script = k; number = i; act = a; settles =
 view (Judged x v) n h = absurd (false≢true n)
 view (Stale x) n h = absurd (false≢true n)
 view (Held q a xs) n h = absurd (false≢true n)
+view (Stuck k i) n h = absurd (false≢true n)
 view (Open x) n h = absurd (false≢true n)
 view (Copied x q) n h = absurd (false≢true n)
 view (facts.Accepted q xs) n h = absurd (false≢true n)

@@ -1,7 +1,7 @@
 -- Events behind those where the race begins, whoever delivers and sees entries, are followed by moves that leave a network that is alike.
 -- c is a scenario, old are the events where the race begins, fs those behind them, ms are moves, all with the latest first; i is the place of a script, k a
 -- seat, d a command.
-use Rattle.std.proofs.Common.{ℕ, zero, suc, ◌≡◌, ◌≤◌, ◌==◌, Bool, true, false, ◌&&◌, not, cond, List, [], ◌∷◌, ◌++◌, length, reverse, option_to_list, Option, Some, None, is_some, slice_get, refl, sym, ◌∙◌, ap, subst, arith, append_assoc}
+use Rattle.std.proofs.Common.{ℕ, zero, suc, ◌≡◌, ◌≤◌, ◌==◌, Bool, true, false, ◌&&◌, ◌||◌, not, cond, List, [], ◌∷◌, ◌++◌, length, reverse, option_to_list, Option, Some, None, is_some, slice_get, refl, sym, ◌∙◌, ap, subst, arith, append_assoc}
 use Rattle.std.specs.List.{All}
 use Rattle.std.specs.Option.{option_map}
 use Rattle.std.proofs.lemmas.Bool.{and_parts, and_from, eq-eqb, false≢true}
@@ -12,42 +12,48 @@ use Rattle.chorus_ui.specs.Layout.{has_place}
 use Rattle.chorus_entry.specs.declared.command.Command.{Command}
 use Rattle.chorus_entry.specs.declared.packet.Packet.{Packet}
 use Rattle.chorus_calls.specs.Callers.{Seated}
+use Rattle.law_awaits.specs.Awaits.{would_take}
 use Rattle.law_arrows.specs.Arrows.{served, served_by, worked_off}
-use Rattle.law_network.specs.Network.{NetState, Event, Enter, Act, Deliver, See, happened, one_if, schedule, turn_for}
+use Rattle.law_network.specs.Network.{NetState, Event, Enter, Act, Deliver, See, happened, one_if, schedule}
 use Rattle.law_network.specs.Packets.{first_on}
 use Rattle.law_network.specs.Schedules.{may_happen, may_be, command_in, commands_of}
 use Rattle.law_network.proofs.Draining.Drains.{idle-event}
 use Rattle.law_network.proofs.Places.Layouts.{schedule-keeps}
-use Rattle.law_explore.specs.Alike.{ActAlike, CallerAlike, NetsAlike}
+use Rattle.law_explore.specs.Alike.{ActAlike, NetsAlike}
 use Rattle.law_explore.specs.declared.moves.Move.{Move}
 use Rattle.law_explore.specs.declared.moves.Move.TheVariants.{Go, Carry}
 use Rattle.law_explore.specs.Neighbours.{is_ready}
-use Rattle.law_explore.specs.Races.{are_linked, event_of, is_ready_by, next_of, own_by, position_after, replaying, seat_0}
+use Rattle.law_explore.specs.Races.{Order, are_linked, event_of, is_now, is_ready_by, may_now, next_of, position_after, replaying, seat_0}
 use Rattle.law_explore.specs.Replays.{events_of}
 use Rattle.law_explore.specs.Search.{IsHistory}
 use Rattle.law_explore.proofs.Alike.{keep_acts}
-use Rattle.law_explore.proofs.Settling.{told-alike}
-use Rattle.law_explore.proofs.Nets.{begins, command-alike, some-too}
+use Rattle.law_explore.proofs.Nets.{command-alike, some-too}
+use Rattle.law_explore.proofs.Races.{now-same}
 use Rattle.law_moments.specs.Answers.{answer_by, answered_by}
-use Rattle.law_replay.specs.Shown.{race_of}
-use Rattle.chorus_scene.specs.Scene.{Scene, Script}
+use Rattle.law_replay.specs.Shown.{orders_of, race_of}
+use Rattle.chorus_scene.specs.Scene.{Scene, Script, is_await}
+use Rattle.chorus_report.specs.Awaiting.{AwaitsTake}
 use Rattle.chorus_explore.specs.Stages.{position}
-use Rattle.chorus_explore.proofs.Happening.{events, left-of, net-is}
+use Rattle.chorus_explore.proofs.Happening.{events, net-is}
 use Rattle.chorus_explore.proofs.Racing.{base, caller-at, first-at, race-layout}
 use Rattle.law_outcomes.specs.Anybody.{IsOfRace}
 use Rattle.law_outcomes.proofs.Anybody.{delivers-alike, sees-alike}
+use Rattle.law_outcomes.proofs.Awaiting.{acts_told, next-left, order, ordered, same-own, takes-less, takes-now}
 use Rattle.law_outcomes.proofs.Counting.{served-one}
 
-split-same : {X : Type 0} (xs ys us vs : List X) → xs ++ ys ≡ us ++ vs → length xs ≡ length us → ys ≡ vs
-split-same [] ys [] vs e n = e
-split-same [] ys (u ∷ us) vs e n = absurd (omega (arith, n))
-split-same (x ∷ xs) ys [] vs e n = absurd (omega (arith, n))
-split-same (x ∷ xs) ys (u ∷ us) vs e n = split-same xs ys us vs (let tail : xs ++ ys ≡ us ++ vs = cc in tail) (omega (arith, n))
+at-length : {X : Type 0} (xs : List X) (x : X) (ys : List X) → slice_get (xs ++ x ∷ ys) (length xs) ≡ Some x
+at-length [] x ys = refl
+at-length (z ∷ xs) x ys = at-length xs x ys
 
 below : {X : Type 0} (xs : List X) (i : ℕ) (x : X) → slice_get xs i ≡ Some x → suc i ≤ length xs
 below [] i x e = absurd (cc)
 below (y ∷ xs) zero x e = omega arith
 below (y ∷ xs) (suc i) x e = (let le = below xs i x e in omega (arith, le))
+
+-- either it does not wait, or it is the time
+not-or : (a b : Bool) → (a ≡ true → b ≡ true) → not a || b ≡ true
+not-or true b h = h refl
+not-or false b h = refl
 
 -- an event gives one command more, or none
 command-more : (k : ℕ) (e : Event) (cs : List Command) → (more : List Command) × (command_in k e cs ≡ more ++ cs)
@@ -89,6 +95,10 @@ module _ (c : Scene) (old : List Event) where
   pub record Gives (fs : List Event) : Type 0 where
     pub some : (i : ℕ) (script : Script) → slice_get c.scripts i ≡ Some script → (left : List Command) × (script.commands ≡ reverse (given-by i fs) ++ left)
     pub none : (i : ℕ) → slice_get c.scripts i ≡ None → given-by i fs ≡ []
+
+  -- and each await that is given receives a message
+  abbrev pub Takes : List Event → Type 0
+  Takes fs = (i : ℕ) (script : Script) → slice_get c.scripts i ≡ Some script → AwaitsTake script.waits 0 (acts_told (answered_by c.layout (suc i) (fs ++ old)))
 
   none-of : {X : Type 0} (xs ys : List X) → xs ++ ys ≡ [] → ys ≡ []
   none-of [] ys e = e
@@ -154,7 +164,7 @@ module _ (c : Scene) (old : List Event) where
       let there = served-one b (slice_get s.net.callers 0) (first_on a b s.net.packets) (and_from (is_some (slice_get s.net.callers 0)) (is_some (first_on a b s.net.packets)) first found) in
       record {
         moves = Carry a b ∷ w.moves;
-        history = (ap (λ o. is_ready_by o s.net) event ∙ ready, w.history);
+        history = (ap (λ o. is_ready_by o s.net && true) event ∙ ap (λ q. q && true) ready, w.history);
         nets = subst (λ o. NetsAlike ActAlike (length c.scripts) (at (Deliver k a b ∷ fs)) (position_after o (Carry a b) (position c w.moves)).net) (sym event)
             (delivers-alike (length c.scripts) (at fs) (position c w.moves).net w.nets k a b one.0 first);
         gave = λ i. ap (λ o. commands_of (suc i) ((option_to_list o ++ events_of (race_of c) w.moves) ++ reverse (base c))) event ∙ w.gave i;
@@ -168,36 +178,35 @@ module _ (c : Scene) (old : List Event) where
             omega (arith, u, v, here, there, same));
       }
 
-  -- A command is the next one of its script, and is answered by the same act.
+  -- A command is the next one of its script, it is the time for it, and it is answered by the same act.
 
-  same-own : (k : ℕ) (d : Command) (n m : NetState) → NetsAlike ActAlike (length c.scripts) n m → 1 ≤ k → k ≤ length c.scripts → own_by d m (slice_get m.callers k) ≡ own_by d n (slice_get n.callers k)
-  same-own k d n m h low high = by (slice_get n.callers k) (slice_get m.callers k) (h.callers k low high)
-    where
-      by : (x z : Option Seated) → CallerAlike x z → own_by d m z ≡ own_by d n x
-      by None None a = refl
-      by None (Some v) a = absurd a
-      by (Some w) None a = absurd a
-      by (Some w) (Some v) a = ap (λ x. Some x) (sym (told-alike ActAlike keep_acts d (turn_for d w n) (turn_for d v m) (begins ActAlike keep_acts (length c.scripts) n m h k d low high w v a)))
-
-  acted : (i : ℕ) (d : Command) (fs : List Event) → Gives (Act (suc i) d ∷ fs) → Follows fs → (o : Option Script) → slice_get c.scripts i ≡ o → Follows (Act (suc i) d ∷ fs)
-  acted i d fs gives w None there = absurd (let e = sym (own-given i d fs) ∙ gives.none i there in cc)
-  acted i d fs gives w (Some script) there =
+  acted : (i : ℕ) (d : Command) (fs : List Event) → may_be c.layout (Act (suc i) d ∷ fs ++ old) ≡ true → Gives (Act (suc i) d ∷ fs) → Takes (Act (suc i) d ∷ fs) → Follows fs → (o : Option Script) → slice_get c.scripts i ≡ o
+      → Follows (Act (suc i) d ∷ fs)
+  acted i d fs may gives takes w None there = absurd (let e = sym (own-given i d fs) ∙ gives.none i there in cc)
+  acted i d fs may gives takes w (Some script) there =
       let s = position c w.moves in
       let cs = given-by i fs in
       let given = gives.some i script there in
-      let left = left-of c i script there w.moves w.history in
-      let whole : left.given ++ left.left ≡ reverse (given-by i fs) ++ d ∷ given.0 =
-      sym left.whole ∙ given.1 ∙ ap (λ xs. reverse xs ++ given.0) (own-given i d fs) ∙ ap (λ xs. xs ++ given.0) (reverse-append (d ∷ []) cs) ∙ append_assoc (reverse cs) (d ∷ []) given.0 in
-      let long : length left.given ≡ length (reverse (given-by i fs)) = sym left.gave ∙ ap length (w.gave i) ∙ sym (length-reverse cs) in
-      let is = split-same left.given left.left (reverse cs) (d ∷ given.0) whole long in
-      let next : next_of (slice_get (position c w.moves).left i) ≡ Some d = ap next_of left.is_left ∙ ap (λ xs. next_of (Some xs)) is in
-      let event : event_of (race_of c).net.layout seat_0 (Go i) (position c w.moves).left ≡ Some (Act (suc i) d) = ap (option_map (λ (x : Command). Act (suc i) x)) next in
+      let waits = is_await script.waits (length (given-by i fs)) in
+      let all : script.commands ≡ reverse (given-by i fs) ++ d ∷ given.0 =
+      given.1 ∙ ap (λ xs. reverse xs ++ given.0) (own-given i d fs) ∙ ap (λ xs. xs ++ given.0) (reverse-append (d ∷ []) cs) ∙ append_assoc (reverse cs) (d ∷ []) given.0 in
+      let command : slice_get script.commands (length (given-by i fs)) ≡ Some d =
+      ap (slice_get script.commands) (sym (length-reverse cs)) ∙ ap (λ xs. slice_get xs (length (reverse cs))) all ∙ at-length (reverse cs) d given.0 in
+      let next : next_of (slice_get (position c w.moves).left i) ≡ Some (order d (is_await script.waits (length (given-by i fs)))) =
+      next-left c i script there w.moves w.history ∙ ap (λ (xs : List Command). slice_get (orders_of script) (length xs)) (w.gave i) ∙ ordered script (length cs) d command in
+      let event : event_of (race_of c).net.layout seat_0 (Go i) (position c w.moves).left ≡ Some (Act (suc i) d) = ap (option_map (λ (x : Order). Act (suc i) x.command)) next in
       let caller = caller-at c w.moves w.history i script there in
       let low : 1 ≤ suc i = omega arith in
       let high : suc i ≤ length c.scripts = below c.scripts i script there in
+      let same = same-own (length c.scripts) (suc i) d (at fs) (position c w.moves).net w.nets low high in
+      let ready : is_ready_by (event_of (race_of c).net.layout seat_0 (Go i) (position c w.moves).left) (position c w.moves).net ≡ true =
+      ap (λ o. is_ready_by o s.net) event ∙ ap (λ o. is_some o && true) caller.is in
+      let now : is_now (Go i) (position c w.moves).left (position c w.moves).net ≡ true =
+      now-same (race_of c).net.layout seat_0 (Go i) s.left (Act (suc i) d) s.net (at fs) event same ∙ ap (λ o. may_now o i (at fs)) next
+      ∙ not-or waits (would_take (suc i) d (at fs)) (takes-now script.waits c.layout i d (fs ++ old) may (takes i script there)) in
       record {
         moves = Go i ∷ w.moves;
-        history = (ap (λ o. is_ready_by o s.net) event ∙ ap (λ o. is_some o && true) caller.is, w.history);
+        history = (and_from (is_ready_by (event_of (race_of c).net.layout seat_0 (Go i) s.left) s.net) (is_now (Go i) s.left s.net) ready now, w.history);
         nets = subst (λ o. NetsAlike ActAlike (length c.scripts) (at (Act (suc i) d ∷ fs)) (position_after o (Go i) (position c w.moves)).net) (sym event)
             (command-alike ActAlike keep_acts (length c.scripts) (at fs) (position c w.moves).net w.nets (suc i) d low high);
         gave = λ j.
@@ -205,20 +214,21 @@ module _ (c : Scene) (old : List Event) where
         told = λ j.
             ap (λ o. answered_by c.layout (suc j) ((option_to_list o ++ events_of (race_of c) w.moves) ++ reverse (base c))) event
             ∙ ap (λ (x : NetState). answer_by (suc j) (Act (suc i) d) x ++ answered_by c.layout (suc j) (events c w.moves)) (net-is c w.moves)
-            ∙ ap (λ o. cond (suc i == suc j) (option_to_list o) [] ++ answered_by c.layout (suc j) (events c w.moves)) (same-own (suc i) d (at fs) (position c w.moves).net w.nets low high)
+            ∙ ap (λ o. cond (suc i == suc j) (option_to_list o) [] ++ answered_by c.layout (suc j) (events c w.moves)) same
             ∙ ap (λ xs. answer_by (suc j) (Act (suc i) d) (at fs) ++ xs) (w.told j);
         served = ap (λ o. length (worked_off c.layout ((option_to_list o ++ events_of (race_of c) w.moves) ++ reverse (base c)))) event ∙ w.served;
       }
 
-  one-more : (e : Event) (fs : List Event) → may_happen e (at fs) ≡ true → IsOfRace e → Gives (e ∷ fs) → Follows fs → Follows (e ∷ fs)
-  one-more (Enter actor last) fs may racing gives w = absurd racing
-  one-more (See k clock) fs may racing gives w = seen k clock fs w
-  one-more (Act zero d) fs may racing gives w = absurd (omega (arith, racing))
-  one-more (Act (suc i) d) fs may racing gives w = acted i d fs gives w (slice_get c.scripts i) refl
-  one-more (Deliver k a b) fs may racing gives w = delivered k a b fs may w (is_some (first_on a b (at fs).packets)) refl
+  one-more : (e : Event) (fs : List Event) → may_be c.layout (e ∷ fs ++ old) ≡ true → may_happen e (at fs) ≡ true → IsOfRace e → Gives (e ∷ fs) → Takes (e ∷ fs) → Follows fs → Follows (e ∷ fs)
+  one-more (Enter actor last) fs all may racing gives takes w = absurd racing
+  one-more (See k clock) fs all may racing gives takes w = seen k clock fs w
+  one-more (Act zero d) fs all may racing gives takes w = absurd (omega (arith, racing))
+  one-more (Act (suc i) d) fs all may racing gives takes w = acted i d fs all gives takes w (slice_get c.scripts i) refl
+  one-more (Deliver k a b) fs all may racing gives takes w = delivered k a b fs may w (is_some (first_on a b (at fs).packets)) refl
 
-  pub follows : (fs : List Event) → may_be c.layout (fs ++ old) ≡ true → All IsOfRace fs → Gives fs → Follows [] → Follows fs
-  follows [] may racing gives start = start
-  follows (e ∷ fs) may racing gives start =
+  pub follows : (fs : List Event) → may_be c.layout (fs ++ old) ≡ true → All IsOfRace fs → Gives fs → Takes fs → Follows [] → Follows fs
+  follows [] may racing gives takes start = start
+  follows (e ∷ fs) may racing gives takes start =
       let two = and_parts (may_happen e (at fs)) (may_be c.layout (fs ++ old)) may in
-      one-more e fs two.0 (All-head IsOfRace e fs racing) gives (follows fs two.1 (All-tail IsOfRace e fs racing) (gives-less e fs gives) start)
+      let before = follows fs two.1 (All-tail IsOfRace e fs racing) (gives-less e fs gives) (λ i script there. takes-less script.waits c.layout (suc i) e (fs ++ old) (takes i script there)) start in
+      one-more e fs may two.0 (All-head IsOfRace e fs racing) gives takes before

@@ -1,10 +1,10 @@
 -- What a reader finds in a replay is among what is told.
 -- c is a scenario, steps are the lines behind `schedule`, ms are moves, k is a claim.
-use Rattle.std.proofs.Common.{ℕ, ◌≡◌, ◌<◌, Bool, true, false, List, [], ◌∷◌, ◌++◌, length, map, reverse, option_to_list, Some, inl, inr, refl, sym, ◌∙◌, ap, subst, append_assoc}
+use Rattle.std.proofs.Common.{ℕ, ◌≡◌, ◌<◌, Bool, true, false, List, [], ◌∷◌, ◌++◌, length, map, reverse, option_to_list, inl, inr, refl, sym, ◌∙◌, ap, subst, append_assoc}
 use Rattle.std.proofs.lemmas.Bool.{false≢true}
 use Rattle.std.specs.List.{All, Contains}
 use Rattle.std.proofs.lemmas.List.{map-append, reverse-reverse}
-use Rattle.std.proofs.lemmas.List.Elements.{All-contains, All-nil, All-cons, All-head, All-tail}
+use Rattle.std.proofs.lemmas.List.Elements.{All-contains, Contains-append_left, All-nil, All-cons, All-head, All-tail}
 use Rattle.chorus_ui.specs.Layout.{IsLayout}
 use Rattle.chorus_ui.specs.declared.layout.Layout.{Layout}
 use Rattle.law_explore.specs.declared.moves.Move.{Move}
@@ -17,15 +17,12 @@ use Rattle.law_explore.specs.Replays.{events_of}
 use Rattle.law_moments.specs.Fronts.{AreFronts}
 use Rattle.law_moments.proofs.Fronts.{moments-are-fronts}
 use Rattle.law_explore.specs.Search.{IsHistory}
-use Rattle.law_replay.specs.Shown.{race_of, step_of}
+use Rattle.law_replay.specs.Shown.{race_of, step_of, IsPlayed}
 use Rattle.chorus_claims.specs.Pieces.{Claim, meets}
 use Rattle.chorus_scene.specs.Limits.{Keeps}
-use Rattle.chorus_scene.specs.Scene.{Scene, HasNoWait}
+use Rattle.chorus_scene.specs.Scene.{Scene}
 use Rattle.chorus_scene.proofs.Kept.{kept}
 use Rattle.chorus_scene.proofs.Law.{printed_again}
-use Rattle.chorus_report.proofs.Awaiting.{given-whole}
-use Rattle.chorus_replay.proofs.Static.{replays-without-waits}
-use Rattle.chorus_replay.specs.Order.{tasks}
 use Rattle.chorus_replay.specs.Ordered.{IsOrdered}
 use Rattle.explore_report.specs.declared.findings.Finding.{Finding}
 use Rattle.explore_report.specs.Findings.{found_of}
@@ -48,68 +45,70 @@ use Rattle.law_outcomes.proofs.Reading.{closed-tells-outcome}
 
 pub replays-are-histories : ReplaysAreHistories
 replays-are-histories c steps closed shape replay =
-    let w = replays-are-whole c steps replay.status closed shape replay.keeps replay.ordered replay.unworn in
+    let w = replays-are-whole c steps replay.status closed shape replay.keeps replay.played replay.unworn in
     let read = closed-tells-outcome (record c { schedule = steps }) w.0 closed shape replay.keeps w.1.0.0 w.1.1.left in
     record { moves = w.0; whole = w.1.0; reads = record { lines = read.lines; facts = read.facts; acts = read.acts; moves = read.moves } }
 
 -- Outcomes.
 
-module _ (c : Scene) (most : ℕ) (text : List ℕ) (told : IsExploration c most text) where
+module _ (c : Scene) (most first : ℕ) (text : List ℕ) (told : IsExploration c most first text) where
   -- what a whole history comes to that was counted is told
   is-told : (ms : List Move) → IsWhole (race_of c) ms → AllAreFound told.explored (length ms) → Contains (texts_in told.explored) (comes c ms)
   is-told ms whole all =
       let fs = told.explored.findings.items.items in
-      All-contains (λ (h : List Move). Contains (texts_in told.explored) (comes c h)) told.histories ms
-      (subst (λ texts. All (λ (h : List Move). Contains texts (comes c h)) told.histories) (outcomes-are (race_of c) (comes c) fs) told.some.found)
-      (by all)
+      let hs = told.histories ++ told.drawn in
+      All-contains (λ (h : List Move). Contains (texts_in told.explored) (comes c h)) hs ms
+      (subst (λ texts. All (λ (h : List Move). Contains texts (comes c h)) hs) (outcomes-are (race_of c) (comes c) fs) told.some.found)
+      (Contains-append_left told.histories told.drawn ms (by all))
     where
       by : AllAreFound told.explored (length ms) → Contains told.histories ms
       by (inl uncut) = (told.all uncut).every ms whole
       by (inr few) = told.bounded ms whole few
 
 pub wholes-are-among-outcomes : WholesAreAmongOutcomes
-wholes-are-among-outcomes c most text closed told w all =
+wholes-are-among-outcomes c most first text closed told w all =
     subst (Contains (texts_in told.explored)) (sym w.reads.lines)
-    (is-told c most text told w.moves w.whole (subst (AllAreFound told.explored) w.reads.moves all))
+    (is-told c most first text told w.moves w.whole (subst (AllAreFound told.explored) w.reads.moves all))
 
 pub replays-are-among-outcomes : ReplaysAreAmongOutcomes
-replays-are-among-outcomes c most text steps closed shape told replay all =
-    wholes-are-among-outcomes c most text closed told (replays-are-histories c steps closed shape replay) all
+replays-are-among-outcomes c most first text steps closed shape told replay all =
+    wholes-are-among-outcomes c most first text closed told (replays-are-histories c steps closed shape replay) all
 
 abbrev Shows : Scene → List (List Move) → Found (List ℕ) → Type 0
 Shows c histories z = IsShown (race_of c) (comes c) z × Contains histories z.shows
 
 pub outcomes-are-of-replays : OutcomesAreOfReplays
-outcomes-are-of-replays c most text shape keeps told = by told.explored.findings.items.items told.some.shown (shown-schedules-are-replayed c most text shape keeps told)
+outcomes-are-of-replays c most first text shape keeps told = by told.explored.findings.items.items told.some.shown (shown-schedules-are-replayed c most first text shape keeps told)
   where
-    by : (fs : List Finding) → All (Shows c told.histories) (map found_of fs) → All (IsReplayed c) fs → All (IsSeen c) fs
+    by : (fs : List Finding) → All (Shows c (told.histories ++ told.drawn)) (map found_of fs) → All (IsReplayed c) fs → All (IsSeen c) fs
     by [] h g = All-nil (IsSeen c)
     by (f ∷ fs) h g =
-        let one = (All-head (Shows c told.histories) (found_of f) (map found_of fs) h).0 in
+        let one = (All-head (Shows c (told.histories ++ told.drawn)) (found_of f) (map found_of fs) h).0 in
         let at = All-head (IsReplayed c) f fs g in
         let ms = reverse f.moves.items in
         All-cons (IsSeen c) f fs
         (λ closed replay.
-        let ordered = subst (λ (moves : List Move). IsOrdered c.layout (tasks (record c { schedule = map step_of moves })) replay.status closed) (sym (reverse-reverse f.moves.items)) replay.ordered in
-        (closed-tells-outcome c ms closed shape keeps one.whole.0 (at.closes replay.status closed ordered replay.unworn).left).lines ∙ at.comes_to)
-        (by fs (All-tail (Shows c told.histories) (found_of f) (map found_of fs) h) (All-tail (IsReplayed c) f fs g))
+        let played = subst (λ (moves : List Move). IsPlayed (record c { schedule = map step_of moves }) replay.status closed) (sym (reverse-reverse f.moves.items)) replay.played in
+        (closed-tells-outcome c ms closed shape keeps one.whole.0 (at.closes replay.status closed played replay.unworn).left).lines ∙ at.comes_to)
+        (by fs (All-tail (Shows c (told.histories ++ told.drawn)) (found_of f) (map found_of fs) h) (All-tail (IsReplayed c) f fs g))
 
 pub texts-are-among-outcomes : TextsAreAmongOutcomes
-texts-are-among-outcomes l most input other old new stuck status closed shape told replay same unworn all =
+texts-are-among-outcomes l most first input other old new stuck status closed shape told replay same unworn all =
     let c = told.scene in
     let d = replay.runs.scene in
-    let explored = given-whole l (Some input) c told.given in
-    let layout : c.layout ≡ l = (printed_again l explored.0.bytes c explored.0.given).0 in
+    let layout : c.layout ≡ l = (printed_again l told.given.bytes c told.given.given).0 in
     let keeps : Keeps d = kept l replay.runs.given.bytes d replay.runs.given.given in
-    -- nothing waits in what is explored, so nothing does here
-    let none : HasNoWait d = subst HasNoWait (sym same) explored.1 in
-    let ordered = (replays-without-waits l (Some other) stuck status closed shape replay none).0 in
-    replays-are-among-outcomes c most told.text d.schedule closed (subst IsLayout (sym layout) shape) told.explored
+    replays-are-among-outcomes c most first told.text d.schedule closed (subst IsLayout (sym layout) shape) told.explored
     (record {
       status = status;
       keeps = subst Keeps same keeps;
-      ordered = subst (λ (k : Layout). IsOrdered k (tasks (record c { schedule = d.schedule })) status closed) (sym layout)
-          (subst (λ (x : Scene). IsOrdered l (tasks x) status closed) same ordered);
+      played = subst (λ (x : Scene). IsPlayed x status closed) same
+          (record {
+            standing = replay.standing;
+            follows = replay.follows;
+            over = replay.over;
+            ordered = subst (λ (k : Layout). IsOrdered k replay.standing.tasks status closed) (sym layout ∙ ap (λ (x : Scene). x.layout) (sym same)) replay.ordered;
+          });
       unworn = unworn;
     })
     all
@@ -180,10 +179,10 @@ module _ (c : Scene) (k : Claim) (shape : IsLayout c.layout) (keeps : Keeps c) w
       record {
         read = read-as ms false h judged.1;
         at_end = λ ends closed replay.
-            (let shown = failures-are-replayed c k ms replay.status closed shape keeps judged.0 judged.1 replay.ordered replay.unworn in
+            (let shown = failures-are-replayed c k ms replay.status closed shape keeps judged.0 judged.1 replay.played replay.unworn in
             read-as ms false h judged.1 closed (shown.at_the_end ends).left);
         on_the_way = λ closed replay.
-            (let shown = failures-are-replayed c k ms replay.status closed shape keeps judged.0 judged.1 replay.ordered replay.unworn in
+            (let shown = failures-are-replayed c k ms replay.status closed shape keeps judged.0 judged.1 replay.played replay.unworn in
             let on = shown.goes_on replay.keeps in
             let reads = closed-tells-outcome c (on.0 ++ ms) closed shape keeps on.1.0.0 on.1.1.left in
             (stands-in-front on.0 ms closed on.1.0.0 reads, (on.0, (on.1.0, reads))));

@@ -7,14 +7,13 @@ use Rattle.std.proofs.lemmas.Bool.{ne_eqb}
 use Rattle.std.proofs.lemmas.List.Elements.{All-nil, All-cons, All-head, All-tail, All-append}
 use Rattle.std.proofs.lemmas.Option.{slice_get-map}
 use Rattle.chorus_ui.specs.declared.layout.Layout.{Layout}
-use Rattle.chorus_entry.specs.declared.command.Command.{Command}
 use Rattle.law_network.specs.Calls.{starting}
 use Rattle.law_network.specs.Network.{NetState, Event, Act, schedule}
 use Rattle.law_network.proofs.Merge.Parts.{All-reverse}
 use Rattle.law_explore.specs.declared.moves.Move.{Move}
-use Rattle.law_explore.specs.Races.{own_by}
+use Rattle.law_explore.specs.Races.{Order, own_by}
 use Rattle.law_moments.specs.Answers.{answer_by, answered_by}
-use Rattle.law_replay.specs.Shown.{race_of}
+use Rattle.law_replay.specs.Shown.{orders_of, race_of}
 use Rattle.chorus_scene.specs.Scene.{Scene, Script}
 use Rattle.chorus_report.specs.Setup.{setup_commands}
 use Rattle.chorus_replay.specs.Order.{entering, in_setup}
@@ -46,11 +45,11 @@ module _ (k : ℕ) where
       (each _ c.scripts (λ s n. refl))))
 
 -- the list of what each script was answered
-pub told-is-at : (c : Scene) (ms : List Move) (i : ℕ) → slice_get (position c ms).told i ≡ option_map (λ (cs : List Command). answered_by c.layout (suc i) (events c ms)) (slice_get (race_of c).scripts i)
+pub told-is-at : (c : Scene) (ms : List Move) (i : ℕ) → slice_get (position c ms).told i ≡ option_map (λ (os : List Order). answered_by c.layout (suc i) (events c ms)) (slice_get (race_of c).scripts i)
 told-is-at c ms i = answered-at (race_of c) c.layout (reverse (base c)) refl (λ j script e. silent-first j c) ms i
 
 pub told-at : (c : Scene) (ms : List Move) (i : ℕ) (script : Script) → slice_get c.scripts i ≡ Some script → slice_get (position c ms).told i ≡ Some (answered_by c.layout (suc i) (events c ms))
 told-at c ms i script there =
     told-is-at c ms i
-    ∙ ap (option_map (λ (cs : List Command). answered_by c.layout (suc i) (events c ms)))
-    (slice_get-map (λ (s : Script). s.commands) c.scripts i ∙ ap (option_map (λ (s : Script). s.commands)) there)
+    ∙ ap (option_map (λ (os : List Order). answered_by c.layout (suc i) (events c ms)))
+    (slice_get-map orders_of c.scripts i ∙ ap (option_map orders_of) there)

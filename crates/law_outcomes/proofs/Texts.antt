@@ -81,13 +81,13 @@ uncut-is false bound more h = refl
 uncut-is true bound more h = absurd (false≢true (sym h))
 
 pub all-is-uncut : AllIsUncut
-all-is-uncut c most text small told = (
+all-is-uncut c most first text small told = (
   λ says. all-is told.explored.is_cut told.explored.bound (rest told.explored) (sym line ∙ says),
   λ uncut. line ∙ uncut-is told.explored.is_cut told.explored.bound (rest told.explored) uncut,
 )
   where
     few : told.explored.histories < 2 ^ 64
-    few = let n = told.count in min-below told.explored.histories (length told.histories) n
+    few = let n = told.count in min-below told.explored.histories (length (told.histories ++ told.drawn)) n
 
     many : told.explored.events < 2 ^ 64
     many = (let le = told.events.0 in omega (arith, le, small))

@@ -9,7 +9,7 @@ use Rattle.chorus_entry.specs.declared.command.Command.{Command}
 use Rattle.law_network.specs.Network.{NetState, Event, Act, Deliver, after, happened, numbers, schedule}
 use Rattle.law_explore.specs.declared.moves.Move.{Move}
 use Rattle.law_explore.specs.declared.moves.Move.TheVariants.{Go, Carry}
-use Rattle.law_explore.specs.Races.{Race, Position, Told, are_linked, next_of, own_by, position_after, replaying, with_answer}
+use Rattle.law_explore.specs.Races.{Race, Order, Position, Told, are_linked, next_of, own_by, position_after, replaying, with_answer}
 use Rattle.law_explore.specs.Replays.{events_of}
 use Rattle.law_explore.specs.Search.{state_after}
 use Rattle.law_explore.proofs.Showing.{net-after}
@@ -63,7 +63,7 @@ module _ (r : Race) (l : Layout) (base : List Event) (start : r.net ≡ schedule
 
   -- the script of this place was answered so
   abbrev Answered : List Move → ℕ → Type 0
-  Answered ms i = slice_get (state_after (replaying r) ms).told i ≡ option_map (λ (cs : List Command). answered_by l (suc i) (events ms)) (slice_get r.scripts i)
+  Answered ms i = slice_get (state_after (replaying r) ms).told i ≡ option_map (λ (os : List Order). answered_by l (suc i) (events ms)) (slice_get r.scripts i)
 
   -- a script is told one answer more, where its caller is there
   more : (a : Option Told) (o : Option (List Told)) (told : List Told) → o ≡ Some told → with_answer a o ≡ option_to_list a ++ told
@@ -74,39 +74,39 @@ module _ (r : Race) (l : Layout) (base : List Event) (start : r.net ≡ schedule
     abbrev s : Position
     s = state_after (replaying r) ms
 
-    gone : (j : ℕ) (d : Command) (o : Option (List Command)) → slice_get r.scripts i ≡ o → (b : Bool) → (suc j == suc i) ≡ b
+    gone : (j : ℕ) (d : Command) (o : Option (List Order)) → slice_get r.scripts i ≡ o → (b : Bool) → (suc j == suc i) ≡ b
         → slice_get (slice_set s.told j (with_answer (own_by d s.net (slice_get s.net.callers (suc j))) (slice_get s.told j))) i
-        ≡ option_map (λ (cs : List Command). cond b (option_to_list (own_by d s.net (slice_get s.net.callers (suc j)))) [] ++ answered_by l (suc i) (events ms)) o
-    gone j d None e b f = set-none s.told i j _ (ih ∙ ap (option_map (λ (cs : List Command). answered_by l (suc i) (events ms))) e)
+        ≡ option_map (λ (os : List Order). cond b (option_to_list (own_by d s.net (slice_get s.net.callers (suc j)))) [] ++ answered_by l (suc i) (events ms)) o
+    gone j d None e b f = set-none s.told i j _ (ih ∙ ap (option_map (λ (os : List Order). answered_by l (suc i) (events ms))) e)
     gone j d (Some cs) e false f =
         set-other s.told i j _ (λ same. false≢true (sym f ∙ eq-eqb (suc j) (suc i) (ap suc same)))
-        ∙ ih ∙ ap (option_map (λ (cs : List Command). answered_by l (suc i) (events ms))) e
+        ∙ ih ∙ ap (option_map (λ (os : List Order). answered_by l (suc i) (events ms))) e
     gone j d (Some cs) e true f =
         let same : j ≡ i = (let n = eqb-true (suc j) (suc i) f in omega (arith, n)) in
         let a = own_by d s.net (slice_get s.net.callers (suc j)) in
         let told = answered_by l (suc i) (events ms) in
-        let was : slice_get s.told i ≡ Some told = ih ∙ ap (option_map (λ (cs : List Command). answered_by l (suc i) (events ms))) e in
+        let was : slice_get s.told i ≡ Some told = ih ∙ ap (option_map (λ (os : List Order). answered_by l (suc i) (events ms))) e in
         ap (λ (k : ℕ). slice_get (slice_set s.told k (with_answer a (slice_get s.told k))) i) same
         ∙ set-same s.told i told (with_answer a (slice_get s.told i)) was
         ∙ ap (λ (xs : List Told). Some xs) (more a (slice_get s.told i) told was)
 
-    went : (j : ℕ) (o : Option Command) → next_of (slice_get s.left j) ≡ o
-        → slice_get (position_after (option_map (λ (d : Command). Act (suc j) d) o) (Go j) s).told i
-        ≡ option_map (λ (cs : List Command). answered_by l (suc i) ((option_to_list (option_map (λ (d : Command). Act (suc j) d) o) ++ events_of r ms) ++ base)) (slice_get r.scripts i)
+    went : (j : ℕ) (o : Option Order) → next_of (slice_get s.left j) ≡ o
+        → slice_get (position_after (option_map (λ (x : Order). Act (suc j) x.command) o) (Go j) s).told i
+        ≡ option_map (λ (os : List Order). answered_by l (suc i) ((option_to_list (option_map (λ (x : Order). Act (suc j) x.command) o) ++ events_of r ms) ++ base)) (slice_get r.scripts i)
     went j None e = ih
-    went j (Some d) e =
-        gone j d (slice_get r.scripts i) refl (suc j == suc i) refl
-        ∙ ap (λ (n : NetState). option_map (λ (cs : List Command). cond (suc j == suc i) (option_to_list (own_by d n (slice_get n.callers (suc j)))) [] ++ answered_by l (suc i) (events ms)) (slice_get r.scripts i)) (sym (net-is ms))
+    went j (Some o) e =
+        gone j o.command (slice_get r.scripts i) refl (suc j == suc i) refl
+        ∙ ap (λ (n : NetState). option_map (λ (os : List Order). cond (suc j == suc i) (option_to_list (own_by o.command n (slice_get n.callers (suc j)))) [] ++ answered_by l (suc i) (events ms)) (slice_get r.scripts i)) (sym (net-is ms))
 
     carried : (a b : ℕ) (q : Bool) → slice_get (position_after (cond q (Some (Deliver 0 a b)) None) (Carry a b) s).told i
-        ≡ option_map (λ (cs : List Command). answered_by l (suc i) ((option_to_list (cond q (Some (Deliver 0 a b)) None) ++ events_of r ms) ++ base)) (slice_get r.scripts i)
+        ≡ option_map (λ (os : List Order). answered_by l (suc i) ((option_to_list (cond q (Some (Deliver 0 a b)) None) ++ events_of r ms) ++ base)) (slice_get r.scripts i)
     carried a b false = ih
     carried a b true = ih
 
-  pub answered-at : ((i : ℕ) (script : List Command) → slice_get r.scripts i ≡ Some script → answered_by l (suc i) base ≡ []) → (ms : List Move) (i : ℕ) → Answered ms i
-  answered-at none [] i = slice_get-map (λ (cs : List Command). []) r.scripts i ∙ by (slice_get r.scripts i) refl
+  pub answered-at : ((i : ℕ) (script : List Order) → slice_get r.scripts i ≡ Some script → answered_by l (suc i) base ≡ []) → (ms : List Move) (i : ℕ) → Answered ms i
+  answered-at none [] i = slice_get-map (λ (os : List Order). []) r.scripts i ∙ by (slice_get r.scripts i) refl
     where
-      by : (o : Option (List Command)) → slice_get r.scripts i ≡ o → option_map (λ (cs : List Command). []) o ≡ option_map (λ (cs : List Command). answered_by l (suc i) base) o
+      by : (o : Option (List Order)) → slice_get r.scripts i ≡ o → option_map (λ (os : List Order). []) o ≡ option_map (λ (os : List Order). answered_by l (suc i) base) o
       by None e = refl
       by (Some script) e = ap (λ (xs : List Told). Some xs) (sym (none i script e))
   answered-at none (Go j ∷ ms) i = went ms i (answered-at none ms i) j (next_of (slice_get (state_after (replaying r) ms).left j)) refl

@@ -22,7 +22,7 @@ use Rattle.chorus_explore.specs.Stages.{comes, facts_at, position}
 
 -- the lines of an outcome that a reader finds in the merged journal
 abbrev pub outcome_of_closed : Scene → Closed → List ℕ
-outcome_of_closed c closed = outcome_lines (outcome_read c.layout (length c.scripts) (past_of closed))
+outcome_of_closed c closed = outcome_lines (outcome_read c.layout (race_of c).scripts (past_of closed))
 
 -- those of all facts: in the merged journal, and in the packets that are left
 abbrev pub facts_of_closed : Scene → Closed → List ℕ

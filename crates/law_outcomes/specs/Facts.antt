@@ -7,7 +7,7 @@ use Rattle.chorus_entry.specs.declared.act.Act.{Act}
 use Rattle.chorus_entry.specs.declared.act.Act.TheVariants as acts
 use Rattle.chorus_show.specs.Bounds.{AreIds, AreNames, Is32, IsAct, IsAnswer, IsId}
 use Rattle.law_explore.specs.Outcome as facts
-use Rattle.law_explore.specs.Outcome.{Answered, Calls, Copied, Fact, Held, Judged, Members, Moving, Next, Open, Settled, Stale, plain_act, plain_answer}
+use Rattle.law_explore.specs.Outcome.{Answered, Calls, Copied, Fact, Held, Judged, Members, Moving, Next, Open, Settled, Stale, Stuck, plain_act, plain_answer}
 use Rattle.explore_report.specs.Facts.{outcome_lines}
 
 -- a reply that was taken, and what ended the call or came late
@@ -27,6 +27,7 @@ IsPlain (Answered k i act) = Is32 k × Is32 i × IsAct act × (plain_act act ≡
 IsPlain (Judged x verdict) = IsId x × IfSome verdict (λ answer. IsAnswer answer × (plain_answer answer ≡ answer))
 IsPlain (Stale x) = IsId x
 IsPlain (Held q actor waiting) = IsName q × IsName actor × AreIds waiting
+IsPlain (Stuck k i) = Is32 k × Is32 i
 IsPlain (Settled k i act settles) = Is32 k × Is32 i × IsTake act × IsSettling settles
 IsPlain (Open x) = IsId x
 IsPlain (Copied x q) = IsId x × IsName q

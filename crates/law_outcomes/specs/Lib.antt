@@ -3,3 +3,4 @@ pub mod Replays
 pub mod Texts
 pub mod Anybody
 pub mod Facts
+pub mod Stuck

@@ -9,7 +9,7 @@ use Rattle.chorus_ui.specs.declared.layout.Layout.{Layout}
 use Rattle.law_explore.specs.declared.moves.Move.{Move}
 use Rattle.law_explore.specs.Races.{IsWhole}
 use Rattle.law_moments.specs.Fronts.{AreFronts}
-use Rattle.law_replay.specs.Shown.{race_of, step_of}
+use Rattle.law_replay.specs.Shown.{race_of, step_of, IsPlayed}
 use Rattle.chorus_claims.specs.Pieces.{Claim, meets}
 use Rattle.chorus_scene.specs.Limits.{Keeps}
 use Rattle.chorus_scene.specs.Scene.{Scene}
@@ -20,8 +20,7 @@ use Rattle.chorus_show.specs.declared.stuck.Stuck.{Stuck}
 use Rattle.chorus_net.specs.declared.closed.Closed.{Closed}
 use Rattle.chorus_net.specs.Closing.{IsLeft, closed_journals}
 use Rattle.chorus_replay.specs.Laws.{worn_clock}
-use Rattle.chorus_replay.specs.Order.{tasks}
-use Rattle.chorus_replay.specs.Ordered.{IsOrdered, Replays}
+use Rattle.chorus_replay.specs.Ordered.{Replays}
 use Rattle.explore_report.specs.declared.findings.Finding.{Finding}
 use Rattle.explore_report.specs.declared.explored.Explored.{Explored}
 use Rattle.explore_report.specs.Findings.{texts_of}
@@ -35,7 +34,7 @@ use Rattle.law_outcomes.specs.Closed.{IsOfWhole, IsReadOf, acts_in, facts_of_clo
 pub record IsReplay (c : Scene) (steps : List Step) (closed : Closed) : Type 0 where
   pub status : Status
   pub keeps : Keeps (record c { schedule = steps })
-  pub ordered : IsOrdered c.layout (tasks (record c { schedule = steps })) status closed
+  pub played : IsPlayed (record c { schedule = steps }) status closed
   pub unworn : worn_clock status ≡ None
 
 abbrev pub ReplaysAreHistories : Type 0
@@ -54,15 +53,15 @@ AllAreFound e moves = (e.is_cut ≡ false) ⊎ (moves < e.bound)
 -- what a whole history comes to is among the outcomes that are told, where all such were found
 abbrev pub WholesAreAmongOutcomes : Type 0
 WholesAreAmongOutcomes =
-    (c : Scene) (most : ℕ) (text : List ℕ) (closed : Closed) → (told : IsExploration c most text) → IsOfWhole c closed →
+    (c : Scene) (most first : ℕ) (text : List ℕ) (closed : Closed) → (told : IsExploration c most first text) → IsOfWhole c closed →
     AllAreFound told.explored (moves_read c closed) → Contains (texts_in told.explored) (outcome_of_closed c closed)
 
 -- Where `explore` tells of all, the lines of every replay are among those that it tells; where it tells of `some N`,
 -- those of every replay of fewer than N moves.
 abbrev pub ReplaysAreAmongOutcomes : Type 0
 ReplaysAreAmongOutcomes =
-    (c : Scene) (most : ℕ) (text : List ℕ) (steps : List Step) (closed : Closed) → IsLayout c.layout →
-    (told : IsExploration c most text) → IsReplay c steps closed → AllAreFound told.explored (moves_read c closed) →
+    (c : Scene) (most first : ℕ) (text : List ℕ) (steps : List Step) (closed : Closed) → IsLayout c.layout →
+    (told : IsExploration c most first text) → IsReplay c steps closed → AllAreFound told.explored (moves_read c closed) →
     Contains (texts_in told.explored) (outcome_of_closed c closed)
 
 -- the outcome is read in every replay of its schedule
@@ -73,15 +72,15 @@ IsSeen c f =
 -- And each outcome that it tells is that of a replay.
 abbrev pub OutcomesAreOfReplays : Type 0
 OutcomesAreOfReplays =
-    (c : Scene) (most : ℕ) (text : List ℕ) → IsLayout c.layout → Keeps c → (told : IsExploration c most text) →
+    (c : Scene) (most first : ℕ) (text : List ℕ) → IsLayout c.layout → Keeps c → (told : IsExploration c most first text) →
     All (IsSeen c) told.explored.findings.items.items
 
 -- From bytes to bytes: where `explore` is done with one text, and `replay` with one that says the same but for its
 -- schedule.
 abbrev pub TextsAreAmongOutcomes : Type 0
 TextsAreAmongOutcomes =
-    (l : Layout) (most : ℕ) (input other : List ℕ) (old new : Option (List ℕ)) (stuck : List Stuck) (status : Status)
-    (closed : Closed) → IsLayout l → (told : Tells l most Done (Some input) old new) →
+    (l : Layout) (most first : ℕ) (input other : List ℕ) (old new : Option (List ℕ)) (stuck : List Stuck) (status : Status)
+    (closed : Closed) → IsLayout l → (told : Tells l most first Done (Some input) old new) →
     (replay : Replays l (Some other) stuck status closed) →
     replay.runs.scene ≡ record told.scene { schedule = replay.runs.scene.schedule } → worn_clock status ≡ None →
     AllAreFound told.explored.explored (moves_read told.scene closed) →

@@ -4,6 +4,7 @@ ghost use Rattle.law_outcomes.specs.Anybody.{PlaysAreHistories};
 ghost use Rattle.law_outcomes.specs.Closed.{ClosedTellsOutcome};
 ghost use Rattle.law_outcomes.specs.Facts.{TextsTellOutcomes};
 ghost use Rattle.law_outcomes.specs.Replays.{ChecksAreOfReplays, OutcomesAreOfReplays, ReplaysAreAmongOutcomes, ReplaysAreHistories, TextsAreAmongOutcomes, WholesAreAmongOutcomes};
+ghost use Rattle.law_outcomes.specs.Stuck.{OutcomesTellWhatIsStuck};
 ghost use Rattle.law_outcomes.specs.Texts.{AllIsUncut};
 
 /// Whoever closes the network where a history leads, the lines that a reader finds in the merged journal are those of the outcome and of all
@@ -46,9 +47,16 @@ pub fn all_is_uncut()
 {}
 
 /// Where events play a scenario as threads do, so that whoever came delivers and sees entries, what is closed at their end is what a whole
-/// history of its race comes to: a reader finds the lines of that history in it.
+/// history of its race comes to: a reader finds the lines of that history in it. Each await that is given receives a message, and a script
+/// that is not done waits for what its port does not give.
 pub fn plays_are_histories()
     ensures { PlaysAreHistories }
+{}
+
+/// So the scripts stand at the end of each whole history too, and the outcome tells those as stuck that are not done, each at the command
+/// that waits.
+pub fn outcomes_tell_what_is_stuck()
+    ensures { OutcomesTellWhatIsStuck }
 {}
 
 /// Two lists of facts that differ have two texts, and so have two outcomes and two moments: the lines tell each fact whose numbers are within

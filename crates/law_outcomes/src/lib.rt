@@ -11,6 +11,6 @@
 mod laws;
 
 pub use laws::{
-    all_is_uncut, checks_are_of_replays, closed_tells_outcome, plays_are_histories,
-    replays_are_among_outcomes, replays_are_histories, texts_tell_outcomes,
+    all_is_uncut, checks_are_of_replays, closed_tells_outcome, outcomes_tell_what_is_stuck,
+    plays_are_histories, replays_are_among_outcomes, replays_are_histories, texts_tell_outcomes,
 };
