@@ -13,14 +13,14 @@ use Rattle.chorus_nucleus.specs.declared.nucleus.Nucleus.{Nucleus}
 use Rattle.chorus_nucleus.specs.Passes.{layout_of}
 use Rattle.chorus_report.specs.declared.finished.Finished.{Finished}
 use Rattle.chorus_report.specs.Ending.{EndsReadingBy, EndsWriting}
-use Rattle.chorus_report.specs.Headline.{HasClock, RunsWhole}
-use Rattle.chorus_report.specs.Output.{EndsUnread, summary_of, text_of, text_with}
+use Rattle.chorus_report.specs.Headline.{HasClock}
+use Rattle.chorus_report.specs.Output.{EndsUnread, summary_of, text_with}
 use Rattle.chorus_report.specs.Reading.{ReadsText, ReadsWithin}
 use Rattle.chorus_report.proofs.Ends.{ends-memory, gave-up-writes, none-closed, reads-as}
 use Rattle.chorus_replay.specs.Ends.{EndsAsLoad, EndsAsReplay}
 use Rattle.chorus_replay.specs.Load.{Loads}
 use Rattle.chorus_replay.specs.Ordered.{Replays}
-use Rattle.chorus_run.specs.Ends.{EndsAsRun}
+use Rattle.chorus_run.specs.Ends.{EndsAsRun, RunsTo}
 use Rattle.chorus_run.specs.Threads.{HasAllPerformed, HasWornOf, IsOfNucleus}
 use Rattle.chorus_audit.specs.Output.{Prints, ReadsBy}
 use Rattle.chorus_judge.specs.declared.asked.Asked.{Asked}
@@ -34,13 +34,13 @@ use Rattle.chorus_picture.specs.Output as picture
 use Rattle.chorus_picture.specs.Output.{Draws}
 use Rattle.chorus_lossy.specs.Output as lossy
 use Rattle.chorus_lossy.specs.Output.{CarriesInput}
-use Rattle.chorus_words.specs.declared.words.TheConstants.{CHECK_MOST, EXPLORE_MOST}
+use Rattle.chorus_words.specs.declared.words.TheConstants.{CHECK_MOST, EXPLORE_FIRST, EXPLORE_MOST}
 use Rattle.chorus_words.specs.declared.words.Words.{Words}
 use Rattle.chorus_words.specs.declared.words.Words.TheVariants as words
 use Rattle.chorus_program.specs.declared.running.TheConstants.{PROGRAM_SITES}
 use Rattle.chorus_check.specs.declared.schedules.Schedules.{Schedules}
 use Rattle.chorus_check.specs.declared.schedules.Schedules.TheVariants.{All, Drawn}
-use Rattle.chorus_program.specs.Running.{asked_by, layout_asked, places_each, replay_layout, Does, DoesOnOneThread, EndsAsAudit, EndsAsChecked, EndsAsExplored, EndsAsJudge, EndsAsLossy, EndsAsPicture, EndsUnreadAsLoad, EndsWithCause, Suits}
+use Rattle.chorus_program.specs.Running.{asked_by, layout_asked, places_each, replay_layout, Does, DoesOnOneThread, EndsAsAudit, EndsAsChecked, EndsAsExplored, EndsAsJudge, EndsAsLossy, EndsAsPicture, EndsWithCause, Suits}
 use Rattle.chorus_program.specs.Started.{DoesOnOwn, DoesOnStarted}
 
 -- Causes.
@@ -69,17 +69,17 @@ module _ {S K : Type 0} (f : Finished) (left : S → Option (List ℕ)) (faults 
   }
 
 -- what tells of a race has its causes
-worn-explored : (l : Layout) (most : ℕ) (status : Status) (told old new : Option (List ℕ)) (clock : ℕ) → status ≡ Worn clock → ExploresBy l most status told old new → CLOCK_LIMIT ≤ clock
-worn-explored l most status told old new clock e h = (subst (λ (s : Status). ExploresBy l most s told old new) e h).worn
+worn-explored : (l : Layout) (most first : ℕ) (status : Status) (told old new : Option (List ℕ)) (clock : ℕ) → status ≡ Worn clock → ExploresBy l most first status told old new → CLOCK_LIMIT ≤ clock
+worn-explored l most first status told old new clock e h = (subst (λ (s : Status). ExploresBy l most first s told old new) e h).worn
 
-pub causes-explored : {S K : Type 0} (most : ℕ) (f : Finished) (left : S → Option (List ℕ)) (faults : S → ℕ) (reliable : S → Type 0) (from rest : S) (held : K → Option (List ℕ)) (failures : K → ℕ) (old new : K)
-    → EndsAsExplored most f left faults reliable from rest held failures old new → EndsWithCause f faults reliable from rest failures old new
-causes-explored most f left faults reliable from rest held failures old new h = record {
+pub causes-explored : {S K : Type 0} (most first : ℕ) (f : Finished) (left : S → Option (List ℕ)) (faults : S → ℕ) (reliable : S → Type 0) (from rest : S) (held : K → Option (List ℕ)) (failures : K → ℕ) (old new : K)
+    → EndsAsExplored most first f left faults reliable from rest held failures old new → EndsWithCause f faults reliable from rest failures old new
+causes-explored most first f left faults reliable from rest held failures old new h = record {
   read_fault = h.explores.reads.read_fault;
   no_fault = h.explores.reads.no_fault;
   steady = λ e. h.explores.reads.steady (λ f. absurd (let bad : Memory ≡ ReadFault = sym e ∙ f in cc));
   write_fault = h.explores.write_fault;
-  worn = λ clock e. (worn-explored replay_layout most f.status (left from) (held old) (held new) clock e h.explores.explores, subst (λ o. IfSome o (λ closed. HasClock clock (merge_of closed))) (sym h.closed) tt);
+  worn = λ clock e. (worn-explored replay_layout most first f.status (left from) (held old) (held new) clock e h.explores.explores, subst (λ o. IfSome o (λ closed. HasClock clock (merge_of closed))) (sym h.closed) tt);
   closed = λ some. absurd (none-is-some f.closed h.closed some);
   unwritten = h.explores.unwritten;
 }
@@ -136,9 +136,10 @@ module _ {S K : Type 0} (f : Finished) (is : f ≡ record { status = Memory; clo
 
   pub runs-none : (n : Nucleus) → EndsAsRun n f left faults reliable from from held failures old old
   runs-none n = record {
+    stuck = [];
     reads = reads-none (layout_of n);
-    writes = writes-none f is held failures old (text_of f.closed);
-    runs = none-closed Memory f (RunsWhole (layout_of n) (left from)) is;
+    writes = writes-none f is held failures old (text_with [] f.closed);
+    runs = none-closed Memory f (RunsTo (layout_of n) (left from) []) is;
     performs = none-closed Memory f (HasAllPerformed n (left from)) is;
     origin = none-closed Memory f (λ s. IsOfNucleus n) is;
     worn = none-closed Memory f HasWornOf is;
@@ -164,12 +165,12 @@ module _ {S K : Type 0} (f : Finished) (is : f ≡ record { status = Memory; clo
     carries = subst (λ (x : Finished). CarriesInput first x.status (left from) (left from) (held old) (held old)) (sym is) ([], (Consumes-nil (left from), omega arith), refl);
   }
 
-  explores-none : (most : ℕ) → EndsAsExplored most f left faults reliable from from held failures old old
-  explores-none most = record {
+  explores-none : (most first : ℕ) → EndsAsExplored most first f left faults reliable from from held failures old old
+  explores-none most first = record {
     closed = closes-none;
     explores = record {
       reads = reads-none replay_layout;
-      explores = subst (λ (x : Finished). ExploresBy replay_layout most x.status (left from) (held old) (held old)) (sym is) tt;
+      explores = subst (λ (x : Finished). ExploresBy replay_layout most first x.status (left from) (held old) (held old)) (sym is) tt;
       write_fault = λ e. absurd (let both : Memory ≡ WriteFault = sym (ap (λ (x : Finished). x.status) is) ∙ e in cc);
       unwritten = λ a b. refl;
     };
@@ -202,8 +203,9 @@ module _ {S K : Type 0} (f : Finished) (is : f ≡ record { status = Memory; clo
   one-thread-none (words.Picture sites turns) same = draws-none (places_each sites turns)
   one-thread-none (words.Lossy first) same = carries-none first
   one-thread-none (words.Crew first commands) same = cc
-  one-thread-none words.Explore same = explores-none EXPLORE_MOST
-  one-thread-none (words.ExploreMost most) same = explores-none most
+  one-thread-none words.Explore same = explores-none EXPLORE_MOST EXPLORE_FIRST
+  one-thread-none (words.ExploreMost most) same = explores-none most EXPLORE_FIRST
+  one-thread-none (words.ExploreFrom most first) same = explores-none most first
 
   pub does-none : (n : Nucleus) (asked : Words) → Does n asked f left faults reliable from from held failures old old
   does-none n words.Run = runs-none n
@@ -223,6 +225,7 @@ module _ {S K : Type 0} (f : Finished) (is : f ≡ record { status = Memory; clo
   does-none n (words.Lossy first) = one-thread-none (words.Lossy first) refl
   does-none n words.Explore = one-thread-none words.Explore refl
   does-none n (words.ExploreMost most) = one-thread-none (words.ExploreMost most) refl
+  does-none n (words.ExploreFrom most first) = one-thread-none (words.ExploreFrom most first) refl
 
   started-none : (asked : Words) (o : Option Layout) → layout_asked asked ≡ o → DoesOnStarted o asked f left faults reliable from from held failures old old
   started-none asked None o-is = one-thread-none asked o-is
@@ -260,6 +263,7 @@ module _ {S K : Type 0} (f : Finished) (left : S → Option (List ℕ)) (faults 
   no-usage-on-one (words.Crew first commands) d is = d
   no-usage-on-one words.Explore d is = d.explores.reads.usage is
   no-usage-on-one (words.ExploreMost most) d is = d.explores.reads.usage is
+  no-usage-on-one (words.ExploreFrom most first) d is = d.explores.reads.usage is
   no-usage-on-one (words.Lossy first) d is = let h = d.carries in subst (λ s. lossy.ReadsBy s h.0 (left from) (left rest)) is h.1
 
   -- what one thread does is done with any nucleus
@@ -281,6 +285,7 @@ module _ {S K : Type 0} (f : Finished) (left : S → Option (List ℕ)) (faults 
   with-any n (words.Crew first commands) d = absurd d
   with-any n words.Explore d = d
   with-any n (words.ExploreMost most) d = d
+  with-any n (words.ExploreFrom most first) d = d
 
   pub no-usage : (n : Nucleus) (asked : Words) → Does n asked f left faults reliable from rest held failures old new → f.status ≡ Status.Usage → ⊥
   no-usage n words.Run d is = d.reads.usage is
@@ -300,6 +305,7 @@ module _ {S K : Type 0} (f : Finished) (left : S → Option (List ℕ)) (faults 
   no-usage n (words.Lossy first) d is = no-usage-on-one (words.Lossy first) d is
   no-usage n words.Explore d is = no-usage-on-one words.Explore d is
   no-usage n (words.ExploreMost most) d is = no-usage-on-one (words.ExploreMost most) d is
+  no-usage n (words.ExploreFrom most first) d is = no-usage-on-one (words.ExploreFrom most first) d is
 
   no-usage-on : (asked : Words) (o : Option Layout) → DoesOnStarted o asked f left faults reliable from rest held failures old new → f.status ≡ Status.Usage → ⊥
   no-usage-on asked None d is = no-usage-on-one asked d is
@@ -331,6 +337,7 @@ suits n (words.Picture sites turns) same = tt
 suits n (words.Lossy first) same = tt
 suits n words.Explore same = tt
 suits n (words.ExploreMost most) same = tt
+suits n (words.ExploreFrom most first) same = tt
 suits n (words.Crew first commands) same =
     let is : layout_of n ≡ places_each PROGRAM_SITES 1 = cc in
     let sites = ap (λ (l : Layout). l.sites) is in omega (arith, sites)

@@ -19,12 +19,14 @@ within-both Memory closed h worn = h
 within-both (Worn clock) closed h worn = worn clock refl
 
 pub runs_are_legal : RunsAreLegal
-runs_are_legal l told status closed h worn few = (
+runs_are_legal l told status closed h worn few stuck may = (
   merge_of closed,
   record {
     number = few;
     within = within-both status closed h.within worn;
     legal = runs-are-legal l (callers_of h.scene) (past_of closed) h.plays.run;
+    stuck = stuck;
+    are = may;
     is = refl;
   },
   refl,

@@ -2,7 +2,6 @@
 -- A source and a sink are seen as `EndsReading` and `EndsWriting` see them; from and rest are the source, old and new
 -- the sink, before and after.
 use Rattle.std.specs.Prelude.{◌≡◌, ◌++◌, ℕ, List, [], Option, None, Some, Result, Ok, Err, codes, decimal}
-use Rattle.chorus_ui.specs.declared.layout.Layout.{Layout}
 use Rattle.chorus_show.specs.declared.status.Status.{Status}
 use Rattle.chorus_show.specs.declared.status.Status.TheVariants.{Done}
 use Rattle.chorus_show.specs.Faults.{fault_line, status_number}

@@ -32,7 +32,7 @@ use Rattle.chorus_replay.specs.Ends.{EndsAsLoad, EndsAsReplay}
 use Rattle.chorus_run.specs.Ends.{EndsAsRun}
 use Rattle.chorus_run.specs.declared.drawn_crew.names.TheConstants.{CREW_PORTS}
 use Rattle.chorus_run.specs.DrawnCrew.Ends.{EndsAsCrew}
-use Rattle.chorus_words.specs.declared.words.TheConstants.{CHECK_MOST, EXPLORE_MOST}
+use Rattle.chorus_words.specs.declared.words.TheConstants.{CHECK_MOST, EXPLORE_FIRST, EXPLORE_MOST}
 use Rattle.chorus_words.specs.declared.words.Words.{Words}
 use Rattle.chorus_words.specs.declared.words.Words.TheVariants as words
 use Rattle.chorus_words.specs.Words.{Ask}
@@ -108,10 +108,10 @@ pub record EndsUnreadAsCrew {S K : Type 0} (n : Nucleus) (first commands : ℕ) 
   pub crews : EndsAsCrew n first commands finished held failures old new
 
 -- nothing was closed, and what may come of the scenario was written
-pub record EndsAsExplored {S K : Type 0} (most : ℕ) (finished : Finished) (left : S → Option (List ℕ)) (faults : S → ℕ)
+pub record EndsAsExplored {S K : Type 0} (most first : ℕ) (finished : Finished) (left : S → Option (List ℕ)) (faults : S → ℕ)
     (reliable : S → Type 0) (from rest : S) (held : K → Option (List ℕ)) (failures : K → ℕ) (old new : K) : Type 0 where
   pub closed : finished.closed ≡ None
-  pub explores : EndsAsExplore replay_layout most finished.status left faults reliable from rest held failures old new
+  pub explores : EndsAsExplore replay_layout most first finished.status left faults reliable from rest held failures old new
 
 -- nothing was closed, this was found of the claims of the scenario that was read, and the text that says it was written
 pub record EndsAsChecked {S K : Type 0} (schedules : Schedules) (given : Result Checked Status) (finished : Finished)
@@ -157,9 +157,11 @@ DoesOnOneThread (words.Picture sites turns) finished left faults reliable from r
 DoesOnOneThread (words.Lossy first) finished left faults reliable from rest held failures old new =
     EndsAsLossy first finished (left from) (left rest) (held old) (held new)
 DoesOnOneThread words.Explore finished left faults reliable from rest held failures old new =
-    EndsAsExplored EXPLORE_MOST finished left faults reliable from rest held failures old new
+    EndsAsExplored EXPLORE_MOST EXPLORE_FIRST finished left faults reliable from rest held failures old new
 DoesOnOneThread (words.ExploreMost most) finished left faults reliable from rest held failures old new =
-    EndsAsExplored most finished left faults reliable from rest held failures old new
+    EndsAsExplored most EXPLORE_FIRST finished left faults reliable from rest held failures old new
+DoesOnOneThread (words.ExploreFrom most first) finished left faults reliable from rest held failures old new =
+    EndsAsExplored most first finished left faults reliable from rest held failures old new
 DoesOnOneThread words.Check finished left faults reliable from rest held failures old new =
     (given : Result Checked Status)
     × EndsAsChecked (All CHECK_MOST) given finished left faults reliable from rest held failures old new

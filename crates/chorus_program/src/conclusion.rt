@@ -14,7 +14,7 @@ use chorus_show::Status;
 pub struct Conclusion {
     /// Whether it did all, or why it did not, and what was closed.
     pub finished: Finished,
-    /// What was found: Some exactly where the word `judge`, `check` or `drawn` did all. With any other word it is None.
+    /// What was found: Some exactly where the word `judge`, `promises`, `check` or `drawn` did all. With any other word it is None.
     pub verdict: Option<Verdict>,
 }
 

@@ -22,7 +22,7 @@ use chorus_run::{LOAD_SITES, load, replay};
 use chorus_show::Status;
 use chorus_transport::{Receiver, Sender};
 use chorus_ui::Layout;
-use chorus_words::{EXPLORE_MOST, Words};
+use chorus_words::{EXPLORE_FIRST, EXPLORE_MOST, Words};
 use std::alloc::{AllocError, Global};
 
 // A load performs as many commands as its words may ask.
@@ -52,8 +52,9 @@ pub(crate) fn does_on_one_thread<S: Source, K: Sink>(
         Words::Audit { sites, turns } => start_audit(alloc, sites, turns, source, sink),
         Words::Picture { sites, turns } => start_picture(alloc, sites, turns, source, sink),
         Words::Lossy { first } => start_lossy(alloc, first, source, sink),
-        Words::Explore => start_explore(alloc, EXPLORE_MOST, source, sink),
-        Words::ExploreMost { most } => start_explore(alloc, most, source, sink),
+        Words::Explore => start_explore(alloc, EXPLORE_MOST, EXPLORE_FIRST, source, sink),
+        Words::ExploreMost { most } => start_explore(alloc, most, EXPLORE_FIRST, source, sink),
+        Words::ExploreFrom { most, first } => start_explore(alloc, most, first, source, sink),
         Words::Run | Words::RunOn { .. } | Words::Crew { .. } => unreachable!(),
         Words::Judge | Words::JudgeFor { .. } => unreachable!(),
         Words::Promises | Words::PromisesFor { .. } => unreachable!(),
@@ -137,20 +138,21 @@ fn start_lossy<S: Source, K: Sink>(
 }
 
 /// Does the program's word `explore`: tells what may come of the scenario that the source gives, with at most so many events
-/// carried out.
+/// carried out, and schedules drawn from this first state on where that limit is met.
 fn start_explore<S: Source, K: Sink>(
     alloc: Global,
     most: u32,
+    first: u64,
     source: &mut S,
     sink: &mut K,
 ) -> Finished
-    ensures explores { EndsAsExplored most result S.left S.faults S.reliable source.old source.new
+    ensures explores { EndsAsExplored most first result S.left S.faults S.reliable source.old source.new
         K.held K.faults sink.old sink.new }
     ensures causes { EndsWithCause result S.faults S.reliable source.old source.new
         K.faults sink.old sink.new }
 {
     let layout = Layout::new(PROGRAM_SITES, 1).unwrap();
-    closed_nothing(explore(alloc, layout, most, source, sink))
+    closed_nothing(explore(alloc, layout, most, first, source, sink))
 }
 
 /// Starts so many sites, with one place each, for a replay or a load by the program's words.

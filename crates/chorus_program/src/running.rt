@@ -32,11 +32,12 @@ pub const PROGRAM_SITES: u16 = 16;
 /// `lossy FIRST` carries what the source gives over a line that loses; `crew FIRST COMMANDS` sends what the draws give to ports of the
 /// nucleus, where it has at least 8 sites, and prints what a crew handled there; `explore` tells what may come of the scenario that the
 /// source gives, by any schedule, with at most [`EXPLORE_MOST`](chorus_words::EXPLORE_MOST) events carried out, and `explore MOST` with at
-/// most so many; `check` and `check MOST` tell so what is so of the scenario's claims, and `drawn COUNT FIRST` what is so of them on so many schedules that are
-/// drawn. Any other words are Usage, and then nothing is read or written.
+/// most so many, and where that is not enough also by schedules that are drawn, with `explore MOST FIRST` from the state FIRST on;
+/// `check` and `check MOST` tell so what is so of the scenario's claims, and `drawn COUNT FIRST` what is so of them on so many schedules
+/// that are drawn. Any other words are Usage, and then nothing is read or written.
 ///
 /// The nucleus was just started, and the pass is its opening one. It is closed in any case. Want of memory is the one ending without a
-/// cause.
+/// cause; by `run` it is told too where a thread that waits gave up too early.
 pub fn program<'a, R: Threads + Wait + Sync, S: Source, K: Sink, G: Gate>(
     alloc: Global,
     rt: &R,

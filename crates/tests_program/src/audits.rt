@@ -21,6 +21,40 @@ departs 0
 end
 ";
 
+/// Script 2 is stuck at its first command.
+const STUCK: &str = "\
+journal 1
+1 1 0 make 1.p.1 1.a.1 4
+summary
+posted 0
+accepted 0
+taken 0
+queued 0
+moving 0
+refused 0
+stale 0
+departs 0
+stuck 2 1
+end
+";
+
+/// It gave none, and so is not stuck at its second one.
+const STUCK_BEYOND: &str = "\
+journal 1
+1 1 0 make 1.p.1 1.a.1 4
+summary
+posted 0
+accepted 0
+taken 0
+queued 0
+moving 0
+refused 0
+stale 0
+departs 0
+stuck 2 2
+end
+";
+
 /// What the program's word `audit` finds in journals as the program prints them.
 #[test]
 fn audit_of_real_outputs(rt: HostRuntime) {
@@ -29,6 +63,8 @@ fn audit_of_real_outputs(rt: HostRuntime) {
         ("1", moved, "legal 27\n"),
         ("4", MADE_AT_PLACE_61, "legal 1\n"),
         ("1", MADE_AT_PLACE_61, "wrong line 2 rule 0\n"),
+        ("1", STUCK, "legal 1\n"),
+        ("1", STUCK_BEYOND, "wrong line 12 rule 99\n"),
     ] {
         assert_prints(&rt, rt.alloc(), &["audit", "16", turns], journal, verdict);
     }
@@ -60,12 +96,12 @@ seat 0 2.a.1
 seat 1 1.a.1
 ";
 
-/// What the program's word `judge` finds in journals, and the exit status with which it ends.
+/// What the program's words `judge` and `promises` find in journals, and the exit status with which it ends.
 #[test]
 fn judgements_and_their_exit_status(rt: HostRuntime) {
     let alloc = rt.alloc();
     let moved = RETRY_ACROSS_A_MOVE_IS_ACCEPTED_ONCE.printed;
-    let each: [(&[&str], &str, &str, u8); 5] = [
+    let each: [(&[&str], &str, &str, u8); 11] = [
         (
             &["judge"],
             moved,
@@ -85,7 +121,33 @@ fn judgements_and_their_exit_status(rt: HostRuntime) {
             7,
         ),
         (&["judge"], LEFT_OPEN, WHAT_IS_LEFT_OPEN, 8),
+        (
+            &["promises", "16", "4"],
+            MADE_AT_PLACE_61,
+            "kept 1\nopen 0\n",
+            0,
+        ),
+        (
+            &["promises"],
+            MADE_AT_PLACE_61,
+            "wrong line 2 rule 0 condition 1\nopen 0\n",
+            7,
+        ),
+        (
+            &["promises"],
+            LEFT_OPEN,
+            "kept 2\nopen 1\nline 3 message 1:1:0 without verdict\n",
+            8,
+        ),
         (&["audit", "16", "1"], LEFT_OPEN, "legal 2\n", 0),
+        (&["judge"], STUCK, "run 1\nopen 0\nseat 0 1.a.1\n", 0),
+        (&["promises"], STUCK, "kept 1\nopen 0\n", 0),
+        (
+            &["judge"],
+            STUCK_BEYOND,
+            "wrong line 12 rule 99\nopen 0\n",
+            7,
+        ),
     ];
     for (words, journal, printed, number) in each {
         let run = run_on(&rt, alloc, words, journal);
@@ -106,6 +168,8 @@ fn judgements_and_their_exit_status(rt: HostRuntime) {
 #[test]
 fn a_real_output_is_drawn(rt: HostRuntime) {
     let moved = RETRY_ACROSS_A_MOVE_IS_ACCEPTED_ONCE.printed;
-    let run = run_on(&rt, rt.alloc(), &["picture", "16", "1"], moved);
-    assert_same(&rt, run.status, Status::Done, "picture");
+    for journal in [moved, STUCK] {
+        let run = run_on(&rt, rt.alloc(), &["picture", "16", "1"], journal);
+        assert_same(&rt, run.status, Status::Done, "picture");
+    }
 }

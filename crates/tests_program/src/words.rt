@@ -27,7 +27,7 @@ fn assert_listed(rt: &impl Abort, alloc: Global) {
     let first = u64::MAX;
     let commands = 65_536;
     let count = u32::MAX;
-    let listed: [(&[&str], Words); 20] = [
+    let listed: [(&[&str], Words); 22] = [
         (&["replay"], Words::Replay),
         (&["run"], Words::Run),
         (&["run", "1"], Words::RunOn { turns: 1 }),
@@ -72,6 +72,17 @@ fn assert_listed(rt: &impl Abort, alloc: Global) {
             &["explore", "4294967295"],
             Words::ExploreMost { most: u32::MAX },
         ),
+        (
+            &["explore", "5", "7"],
+            Words::ExploreFrom { most: 5, first: 7 },
+        ),
+        (
+            &["explore", "4294967295", MOST],
+            Words::ExploreFrom {
+                most: u32::MAX,
+                first,
+            },
+        ),
     ];
     for (words, asked) in listed {
         assert_reads(rt, alloc, words, Some(asked));
@@ -80,7 +91,7 @@ fn assert_listed(rt: &impl Abort, alloc: Global) {
 
 /// Asserts that nothing is read in words that the list of the program's uses has not: too few, too many, and numbers beyond a limit.
 fn assert_unlisted(rt: &impl Abort, alloc: Global) {
-    let unlisted: [&[&str]; 26] = [
+    let unlisted: [&[&str]; 30] = [
         &["run", "0"],
         &["run", "3"],
         &["run", "8"],
@@ -107,6 +118,10 @@ fn assert_unlisted(rt: &impl Abort, alloc: Global) {
         &["lossy"],
         &["lossy", "7", "1"],
         &["explore", "4294967296"],
+        &["explore", "4294967296", "7"],
+        &["explore", "5", "18446744073709551616"],
+        &["explore", "5", "07"],
+        &["explore", "5", "7", "1"],
     ];
     for words in unlisted {
         assert_reads(rt, alloc, words, None);

@@ -1,8 +1,7 @@
-//! Replays of scenarios with awaits, and calls that take none.
+//! Scenarios with awaits, replayed and explored. What explorations tell of them was worked out by an explorer that was written apart.
 
-use crate::exploring::refused_by_explore;
+use crate::exploring::{MANY, told};
 use crate::running::{assert_prints, assert_same, sixteen};
-use chorus_show::Status;
 
 /// Scenarios, each with its name, and what their replays print.
 const REPLAYS: [(&str, &str, &str); 3] = [
@@ -226,11 +225,105 @@ fn scripts_wait(rt: HostRuntime) {
     }
 }
 
-/// An exploration refuses a text with an await at line 0, for reason 2.
+/// Two wait for one message, and who receives it says thanks to a port that is not there.
+const ONE: &str = "\
+chorus 3
+sites 1
+port 1.p.1 1.a.1 1
+script 1.a.1
+await 1.p.1
+send 1.p.2 =thanks
+script 1.a.1
+await 1.p.1
+script 1.a.1
+send 1.p.1 =hello
+schedule
+end
+";
+
+const ONE_TOLD: &str = "\
+histories 2
+events 4
+all
+facts 9
+1 1/2 answer 2 1 take 1.p.1 3:1:0
+1 2/2 answer 3 1 post 3:1:0 port 1.p.1 plain =hello
+1 2/2 verdict 3:1:0 accepted
+1 2/2 port 1.p.1 1.a.1
+1 1/2 stuck 1 1
+2 1/2 answer 1 1 take 1.p.1 3:1:0
+2 1/2 answer 1 2 post 1:1:0 port 1.p.2 plain =thanks
+2 1/2 verdict 1:1:0 no-port
+2 1/2 stuck 2 1
+outcomes 2
+always 3
+answer 3 1 post 3:1:0 port 1.p.1 plain =hello
+verdict 3:1:0 accepted
+port 1.p.1 1.a.1
+
+outcome 1
+histories 1
+answer 2 1 take 1.p.1 3:1:0
+stuck 1 1
+
+outcome 2
+histories 1
+answer 1 1 take 1.p.1 3:1:0
+answer 1 2 post 1:1:0 port 1.p.2 plain =thanks
+verdict 1:1:0 no-port
+stuck 2 1
+
+schedule 1
+step 3
+step 2
+
+schedule 2
+step 3
+step 1
+step 1
+end
+";
+
+/// An await may come only where it receives, and who is left at the end is told as stuck.
 #[test]
-fn explorations_take_no_awaits(rt: HostRuntime) {
-    for (name, text, _) in REPLAYS {
-        let status = refused_by_explore(&rt, rt.alloc(), text);
-        assert_same(&rt, status, Status::Scenario { line: 0, reason: 2 }, name);
-    }
+fn awaits_are_explored(rt: HostRuntime) {
+    let text = told(&rt, rt.alloc(), MANY, ONE);
+    assert_same(&rt, text.as_str(), ONE_TOLD, ONE);
+}
+
+/// A script receives its own message or the one that came first: whenever its await is next a message waits.
+const NONE_WAITS: &str = "\
+chorus 3
+sites 2
+port 1.p.1 1.a.1 2
+script 1.a.1
+send 1.p.1 =a
+await 1.p.1
+script 2.a.1
+send 1.p.1 =b
+schedule
+end
+";
+
+/// The same with a take, which does not wait.
+const NONE_MAY_WAIT: &str = "\
+chorus 3
+sites 2
+port 1.p.1 1.a.1 2
+script 1.a.1
+send 1.p.1 =a
+take 1.p.1
+script 2.a.1
+send 1.p.1 =b
+schedule
+end
+";
+
+/// Where no script ever waits an await is a take.
+#[test]
+fn awaits_that_come_at_once_are_takes(rt: HostRuntime) {
+    let alloc = rt.alloc();
+    let awaited = told(&rt, alloc, MANY, NONE_WAITS);
+    let taken = told(&rt, alloc, MANY, NONE_MAY_WAIT);
+    assert_same(&rt, awaited.as_str(), taken.as_str(), NONE_WAITS);
 }

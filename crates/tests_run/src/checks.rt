@@ -308,6 +308,75 @@ claims 6
 end
 ";
 
+/// Two wait for one message: a script that is stuck has a next command at the end.
+const STUCK: &str = "\
+chorus 3
+sites 1
+port 1.p.1 1.a.1 1
+script 1.a.1
+await 1.p.1
+send 1.p.2 =thanks
+script 1.a.1
+await 1.p.1
+script 1.a.1
+send 1.p.1 =hello
+claim never next 1 *
+claim possible next 2 1
+schedule
+end
+";
+
+const STUCK_TOLD: &str = "\
+events 4
+claims 2
+1 fails 2 never next 1 *
+2 holds 3 possible next 2 1
+schedule 1
+step 3
+step 2
+facts 6
+answer 2 1 take 1.p.1 3:1:0
+answer 3 1 post 3:1:0 port 1.p.1 plain =hello
+verdict 3:1:0 accepted
+port 1.p.1 1.a.1
+accepted 1.p.1 3:1:0
+next 1 1
+schedule 2
+step 3
+step 1
+step 1
+facts 8
+answer 1 1 take 1.p.1 3:1:0
+answer 1 2 post 1:1:0 port 1.p.2 plain =thanks
+answer 3 1 post 3:1:0 port 1.p.1 plain =hello
+verdict 1:1:0 no-port
+verdict 3:1:0 accepted
+port 1.p.1 1.a.1
+accepted 1.p.1 3:1:0
+next 2 1
+end
+";
+
+/// Where script 3 alone may come one move may, whatever is drawn; of two the second is drawn each time.
+const STUCK_DRAWN_TOLD: &str = "\
+drawn 2 7
+events 4
+claims 2
+1 fails 2 never next 1 *
+2 open 0 possible next 2 1
+schedule 1
+step 3
+step 2
+facts 6
+answer 2 1 take 1.p.1 3:1:0
+answer 3 1 post 3:1:0 port 1.p.1 plain =hello
+verdict 3:1:0 accepted
+port 1.p.1 1.a.1
+accepted 1.p.1 3:1:0
+next 1 1
+end
+";
+
 /// From 7 the generator draws 1059165278, 2052263231, 1946856753, 585718673; 572045545, 297257219,
 /// 865189864 and 691615764: of two moves the first, then the only ones; and the second, the second,
 /// the first.
@@ -429,6 +498,7 @@ fn claims_of_protocols_are_checked(rt: HostRuntime) {
         (MANY, POSSIBLE, Checked::Fails { claim: 2 }, POSSIBLE_TOLD),
         (MANY, EARLY, Checked::Fails { claim: 1 }, EARLY_TOLD),
         (MANY, NONE, Checked::Holds, NONE_TOLD),
+        (MANY, STUCK, Checked::Fails { claim: 1 }, STUCK_TOLD),
     ];
     for (most, text, checked, told) in rows {
         assert_checks(&rt, alloc, Schedules::All { most }, text, checked, told);
@@ -442,6 +512,7 @@ fn claims_are_asked_of_drawn_schedules(rt: HostRuntime) {
         (2, DRAWN, Checked::Fails { claim: 1 }, DRAWN_TOLD),
         (0, EARLY, Checked::Open { claim: 1 }, UNDRAWN_TOLD),
         (2, NONE, Checked::Holds, NONE_DRAWN_TOLD),
+        (2, STUCK, Checked::Fails { claim: 1 }, STUCK_DRAWN_TOLD),
     ];
     for (count, text, checked, told) in rows {
         let schedules = Schedules::Drawn { count, first: 7 };

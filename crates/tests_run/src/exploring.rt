@@ -10,31 +10,35 @@ use std::process::Abort;
 /// A limit of events that no exploration meets here.
 pub(crate) const MANY: u32 = 1_000_000;
 
-/// Explores what the source gives, on sixteen sites, with at most so many events, and gives the status with which that ends.
+/// Explores what the source gives, on sixteen sites, with at most so many events and draws from this first state, and gives the status
+/// with which that ends.
 fn explore_on<S: Source, K: Sink>(
     rt: &impl Abort,
     alloc: Global,
     most: u32,
+    first: u64,
     source: &mut S,
     sink: &mut K,
 ) -> Status {
-    explore(alloc, sixteen(rt), most, source, sink)
+    explore(alloc, sixteen(rt), most, first, source, sink)
 }
 
 /// What an exploration with at most so many events tells of the scenario.
 pub(crate) fn told(rt: &impl Abort, alloc: Global, most: u32, text: &str) -> String {
-    let mut source = source_of(rt, alloc, text.as_bytes(), &[]);
-    let mut sink = sink_of(rt, alloc, 4096, &[]);
-    let status = explore_on(rt, alloc, most, &mut source, &mut sink);
-    assert_same(rt, status, Status::Done, text);
-    run_of(rt, alloc, status, false, &sink).written
+    told_from(rt, alloc, most, 1, text)
 }
 
-/// The status with which an exploration of the text ends, of which nothing is told.
-pub(crate) fn refused_by_explore(rt: &impl Abort, alloc: Global, text: &str) -> Status {
+/// The same, with draws from this first state.
+pub(crate) fn told_from(
+    rt: &impl Abort,
+    alloc: Global,
+    most: u32,
+    first: u64,
+    text: &str,
+) -> String {
     let mut source = source_of(rt, alloc, text.as_bytes(), &[]);
     let mut sink = sink_of(rt, alloc, 4096, &[]);
-    let status = explore_on(rt, alloc, MANY, &mut source, &mut sink);
-    assert_same(rt, sink.bytes().len(), 0, text);
-    status
+    let status = explore_on(rt, alloc, most, first, &mut source, &mut sink);
+    assert_same(rt, status, Status::Done, text);
+    run_of(rt, alloc, status, false, &sink).written
 }

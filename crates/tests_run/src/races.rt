@@ -1,6 +1,6 @@
 //! What explorations tell: of three races, where their limit of events is met, and where there is nothing to do.
 
-use crate::exploring::{MANY, told};
+use crate::exploring::{MANY, told, told_from};
 use crate::running::assert_same;
 
 const FULL_PORT: &str =
@@ -302,10 +302,98 @@ deliver 2 1
 end
 ";
 
-const MOVES_WITH_TEN_EVENTS: &str =
-    "histories 0\nevents 10\nsome 3\nfacts 0\noutcomes 0\nalways 0\nend\n";
+const MOVES_WITH_TEN_EVENTS: &str = "\
+histories 45
+events 10
+some 3
+facts 14
+1 4/4 answer 1 1 post 1:1:0 port 1.p.1 plain =a
+1 4/4 answer 1 2 depart 1.p.1 2 2.a.1
+1 4/4 answer 1 3 post 1:2:0 port 1.p.1 plain =b
+1 2/4 answer 2 1 not-here 1.p.1
+3 2/4 answer 2 1 take 1.p.1 1:1:0
+1 1/4 answer 2 2 not-here 1.p.1
+2 1/4 answer 2 2 take 1.p.1 1:1:0
+3 1/4 answer 2 2 take 1.p.1 1:2:0
+4 1/4 answer 2 2 empty 1.p.1
+1 4/4 verdict 1:1:0 accepted
+1 4/4 verdict 1:2:0 accepted
+1 1/4 port 1.p.1 2.a.1 1:1:0 1:2:0
+2 2/4 port 1.p.1 2.a.1 1:2:0
+3 1/4 port 1.p.1 2.a.1
+outcomes 4
+always 5
+answer 1 1 post 1:1:0 port 1.p.1 plain =a
+answer 1 2 depart 1.p.1 2 2.a.1
+answer 1 3 post 1:2:0 port 1.p.1 plain =b
+verdict 1:1:0 accepted
+verdict 1:2:0 accepted
 
-const MOVES_WITH_NONE: &str = "histories 0\nevents 0\nsome 1\nfacts 0\noutcomes 0\nalways 0\nend\n";
+outcome 1
+histories 16
+answer 2 1 not-here 1.p.1
+answer 2 2 not-here 1.p.1
+port 1.p.1 2.a.1 1:1:0 1:2:0
+
+outcome 2
+histories 16
+answer 2 1 not-here 1.p.1
+answer 2 2 take 1.p.1 1:1:0
+port 1.p.1 2.a.1 1:2:0
+
+outcome 3
+histories 10
+answer 2 1 take 1.p.1 1:1:0
+answer 2 2 take 1.p.1 1:2:0
+port 1.p.1 2.a.1
+
+outcome 4
+histories 3
+answer 2 1 take 1.p.1 1:1:0
+answer 2 2 empty 1.p.1
+port 1.p.1 2.a.1 1:2:0
+
+schedule 1
+step 1
+step 2
+step 1
+step 1
+step 2
+deliver 1 2
+deliver 1 2
+deliver 2 1
+
+schedule 2
+step 1
+step 2
+step 1
+step 1
+deliver 1 2
+deliver 1 2
+step 2
+deliver 2 1
+
+schedule 3
+step 1
+step 1
+deliver 1 2
+step 1
+deliver 1 2
+step 2
+deliver 2 1
+step 2
+
+schedule 4
+step 1
+step 1
+deliver 1 2
+step 2
+step 2
+step 1
+deliver 1 2
+deliver 2 1
+end
+";
 
 const NOTHING: &str = "chorus 1\nsites 1\nschedule\nend\n";
 
@@ -313,17 +401,16 @@ const NOTHING_MAY_COME: &str =
     "histories 1\nevents 0\nall\nfacts 0\noutcomes 1\nalways 0\n\noutcome 1\nhistories 1\n\nschedule 1\nend\n";
 
 /// Scenarios, each with how many events are carried out at most, and what is told.
-const RACES: [(&str, u32, &str); 7] = [
+const RACES: [(&str, u32, &str); 6] = [
     // two sends to a port with room for one
     (FULL_PORT, MANY, FULL_PORT_TOLD),
     // a send and a take while the port moves
     (MOVE, MANY, MOVE_TOLD),
     // two sends with a move between them, while another script takes twice
     (MOVES, MANY, MOVES_TOLD),
-    // the same, where the limit of events is met in the midst
+    // the same, where the limit of events is met behind all that is drawn, and before
     (MOVES, 50, MOVES_WITH_FIFTY_EVENTS),
     (MOVES, 10, MOVES_WITH_TEN_EVENTS),
-    (MOVES, 0, MOVES_WITH_NONE),
     // no scripts: one schedule, in which nothing is done
     (NOTHING, 10, NOTHING_MAY_COME),
 ];
@@ -345,5 +432,20 @@ fn a_limit_that_suffices_is_not_met(rt: HostRuntime) {
     for (most, limit) in [(54, "\nall\n"), (53, "\nsome 8\n")] {
         let text = told(&rt, alloc, most, MOVES);
         assert_same(&rt, text.as_str().contains(limit), true, limit);
+    }
+}
+
+/// Where no limit is met nothing is drawn, and the text is the same from each first state; where one is, the text is that of the draws.
+#[test]
+fn schedules_are_drawn_at_a_limit_alone(rt: HostRuntime) {
+    let alloc = rt.alloc();
+    let all = told_from(&rt, alloc, MANY, 7, MOVES);
+    assert_same(&rt, all.as_str(), MOVES_TOLD, MOVES);
+    for (most, first, limit) in [
+        (10, 7, "histories 50\nevents 10\nsome 3\n"),
+        (0, 1, "histories 45\nevents 0\nsome 1\n"),
+    ] {
+        let text = told_from(&rt, alloc, most, first, MOVES);
+        assert_same(&rt, text.as_str().starts_with(limit), true, limit);
     }
 }

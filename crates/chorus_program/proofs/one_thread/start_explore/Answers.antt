@@ -9,10 +9,10 @@ use Rattle.chorus_program.proofs.one_thread.start_explore.Goals as goal
 pub returns-clause-causes : goal.returns-clause-causes
 returns-clause-causes g c =
     let is : c.unwrap-layout.result ≡ replay_layout = cc in
-    causes-explored c.args.most c.closed_nothing.result g.S.Source.left g.S.Source.faults g.S.Source.reliable c.args.source.now c.explore.new.source g.K.Sink.held g.K.Sink.faults c.args.sink.now c.explore.new.sink
+    causes-explored c.args.most c.args.first c.closed_nothing.result g.S.Source.left g.S.Source.faults g.S.Source.reliable c.args.source.now c.explore.new.source g.K.Sink.held g.K.Sink.faults c.args.sink.now c.explore.new.sink
     (record {
       closed = ap (λ (x : Finished). x.closed) c.closed_nothing.ensures;
       explores =
-          subst (λ (l : Layout). EndsAsExplore l c.args.most c.closed_nothing.result.status g.S.Source.left g.S.Source.faults g.S.Source.reliable c.args.source.now c.explore.new.source g.K.Sink.held g.K.Sink.faults c.args.sink.now c.explore.new.sink) is
-          (subst (λ (x : Finished). EndsAsExplore c.unwrap-layout.result c.args.most x.status g.S.Source.left g.S.Source.faults g.S.Source.reliable c.args.source.now c.explore.new.source g.K.Sink.held g.K.Sink.faults c.args.sink.now c.explore.new.sink) (sym c.closed_nothing.ensures) c.explore.ensures);
+          subst (λ (l : Layout). EndsAsExplore l c.args.most c.args.first c.closed_nothing.result.status g.S.Source.left g.S.Source.faults g.S.Source.reliable c.args.source.now c.explore.new.source g.K.Sink.held g.K.Sink.faults c.args.sink.now c.explore.new.sink) is
+          (subst (λ (x : Finished). EndsAsExplore c.unwrap-layout.result c.args.most c.args.first x.status g.S.Source.left g.S.Source.faults g.S.Source.reliable c.args.source.now c.explore.new.source g.K.Sink.held g.K.Sink.faults c.args.sink.now c.explore.new.sink) (sym c.closed_nothing.ensures) c.explore.ensures);
     })
