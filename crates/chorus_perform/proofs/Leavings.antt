@@ -351,6 +351,12 @@ pub performed-so : (c : Scene) (how : Result Bool Halted) (came : Bool) (a b d :
 performed-so c how true a b d k s e o count = performed-all c (is_whole how) how a b d k s e o (λ h. h) (λ h. count refl)
 performed-so c how false a b d k s e o count = performed-all c false how a b d k s e o (λ h. absurd (false≢true h)) (λ h. absurd (false≢true h))
 
+-- where all came there is a note of each script
+pub all-came : (c : Scene) (how : Result Bool Halted) (came : Bool) (b d : Pass) (k : ℕ) → HasRetired how c 0 k b d → (came ≡ true → k ≡ length c.scripts) → OnOk (if_came came how) (length (known d).notes ≡ length c.scripts)
+all-came c (Ok all) true b d k o count = o.notes ∙ count refl
+all-came c (Err halted) true b d k o count = tt
+all-came c how false b d k o count = tt
+
 -- a runner was popped and retired
 pub retired-step : (n : Nucleus) (c : Scene) (how ended next : Result Bool Halted) (r : Runner) (a b d : Pass) (was now whole : ℕ) → was ≡ now + 1 → was ≤ whole → ended ≡ r.ended → next ≡ both ended how → HasRetired how c was (whole - was) a b → IsEndingAt n c (caller_of a).last now r → Retires n r.pass b d → HasRetired next c now (whole - now) a d
 retired-step n c how ended next r a b d was now whole is most same joined e o w =

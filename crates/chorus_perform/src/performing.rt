@@ -1,6 +1,6 @@
 //! Performing a scenario on a nucleus.
 
-ghost use Rattle.std.specs.Prelude.{◌≡◌, ℕ, true, false, IfOk, OnOk, OnErr, IsErrOf, Some, None};
+ghost use Rattle.std.specs.Prelude.{◌≡◌, ℕ, true, false, length, IfOk, OnOk, OnErr, IsErrOf, Some, None};
 ghost use Rattle.std.specs.declared.alloc.AllocError.{AllocError};
 ghost use Rattle.chorus_scene.specs.Limits.{Keeps};
 ghost use Rattle.chorus_scene.specs.Scene.{HasNoWait};
@@ -46,6 +46,7 @@ pub fn perform<R: Threads + Wait + Sync, G: Gate>(
     ensures performed { IfOk result (λ all. HasPerformed all scenario.now (known pass.new)) }
     ensures setup { OnOk result (PerformsSetup scenario.now (known pass.new).mine) }
     ensures whole { HasNoWait scenario.now → IfOk result (λ all. all ≡ true) }
+    ensures came { OnOk result (length (known pass.new).notes ≡ length scenario.now.scripts) }
     ensures even { OnOk result (IsEven (layout_of nucleus.now) (known pass.new)) }
     ensures stopped { OnErr result (HasPerformed false scenario.now (known pass.new)) }
     ensures unworn { OnOk result (worn_by pass.new ≡ worn_by pass.old) }
@@ -76,6 +77,7 @@ fn perform_all<R: Threads + Wait + Sync, G: Gate>(
     ensures performed { IfOk result (λ all. HasPerformed all scenario.now (known pass.new)) }
     ensures setup { OnOk result (PerformsSetup scenario.now (known pass.new).mine) }
     ensures whole { WholeUnless scenario.now result }
+    ensures came { OnOk result (length (known pass.new).notes ≡ length scenario.now.scripts) }
     ensures even { OnOk result (IsEven (layout_of nucleus.now) (known pass.new)) }
     ensures stopped { OnErr result (HasPerformed false scenario.now (known pass.new)) }
     ensures unworn { OnOk result (worn_by pass.new ≡ worn_by pass.old) }
@@ -105,6 +107,7 @@ fn run_scripts<R: Threads + Wait + Sync, G: Gate>(
     ensures performed { HasPerformed (is_whole result) scenario.now (known pass.new) }
     ensures setup { PerformsSetup scenario.now (known pass.new).mine }
     ensures whole { WholeUnless scenario.now result }
+    ensures came { OnOk result (length (known pass.new).notes ≡ length scenario.now.scripts) }
     ensures caller { HasSeenMore (caller_of pass.old) (caller_of pass.new) }
     ensures unworn { OnOk result (worn_by pass.new ≡ worn_by pass.old) }
 {

@@ -71,9 +71,9 @@ module _ (c : Scene) (closed : Closed) (stuck : List Stuck) (shape : IsLayout c.
   both : Stands × (stuck ≡ stuck_of c (done_in c (past_of closed)))
   both = how (has_wait c) refl
 
-pub plays-all : (n : Nucleus) (c : Scene) (v : Pass) (closed : Closed) (all : Bool) (stuck : List Stuck) → c.layout ≡ layout_of n → Keeps c → HasPerformed all c (known v) → PerformsSetup c (known v).mine → (HasNoWait c → all ≡ true)
+pub plays-all : (n : Nucleus) (c : Scene) (v : Pass) (closed : Closed) (all : Bool) (stuck : List Stuck) → c.layout ≡ layout_of n → Keeps c → HasPerformed all c (known v) → PerformsSetup c (known v).mine → length (known v).notes ≡ length c.scripts → (HasNoWait c → all ≡ true)
     → IsEven (layout_of n) (known v) → IsClosed n v closed → Stand c closed stuck → IsPlayedOn n c None stuck closed
-plays-all n c v closed all stuck same keeps performed setup whole even h stand =
+plays-all n c v closed all stuck same keeps performed setup came whole even h stand =
     let shape = subst IsLayout (sym same) h.shape in
     let closes = subst (λ k. ClosesFor k (known v) closed) (sym same) h.for_actors in
     let even' = subst (λ k. IsEven k (known v)) (sym same) even in
@@ -85,7 +85,12 @@ plays-all n c v closed all stuck same keeps performed setup whole even h stand =
       stands = (so.0, so.0);
       stuck_is = so.1;
       origin = is-of-nucleus n v closed h performed.seat performed.first;
-      all = record { last = v; closes = h; performed = λ unworn none. subst (λ b. HasPerformed b c (known v)) (whole none) performed };
+      all = record {
+        last = v;
+        closes = h;
+        performed = λ unworn none. subst (λ b. HasPerformed b c (known v)) (whole none) performed;
+        gone = λ unworn. record { all = all; performed = performed; setup = setup; came = came };
+      };
       high = λ clock is. no-clock clock is;
       entry = λ clock is. no-clock clock is;
       of_pass = λ clock is. no-clock clock is;
@@ -106,7 +111,7 @@ played-worn n c v closed stuck clock same keeps performed h high entry worn =
       stands = tt;
       stuck_is = tt;
       origin = is-of-nucleus n v closed h performed.seat performed.first;
-      all = record { last = v; closes = h; performed = λ none. absurd (cc) };
+      all = record { last = v; closes = h; performed = λ none. absurd (cc); gone = λ none. absurd (cc) };
       high = λ k is. subst (λ m. CLOCK_LIMIT ≤ m) (some-is clock k is) high;
       entry = λ k is. subst (λ m. HasClock m (merge_of closed)) (some-is clock k is) entry;
       of_pass = λ k is. closed-worn n v closed h ∙ worn ∙ is;

@@ -1,6 +1,6 @@
 -- What was performed on a nucleus and closed.
 -- n is the nucleus, c a scenario.
-use Rattle.std.specs.Prelude.{ℕ, ◌≡◌, ◌≤◌, ◌+◌, true, List, Option, Some, None, Ok, slice_get}
+use Rattle.std.specs.Prelude.{ℕ, ◌≡◌, ◌≤◌, ◌+◌, Bool, true, List, length, Option, Some, None, Ok, slice_get}
 use Rattle.std.specs.List.{All}
 use Rattle.chorus_ui.specs.declared.limits.TheConstants.{CLOCK_LIMIT}
 use Rattle.chorus_ui.specs.Layout.{places}
@@ -10,6 +10,7 @@ use Rattle.chorus_entry.specs.declared.entry.Entry.{Entry}
 use Rattle.chorus_world.specs.Views.{by}
 use Rattle.chorus_turn.specs.declared.knowledge.Placed.{Placed}
 use Rattle.chorus_turn.specs.declared.knowledge.Note.{Note}
+use Rattle.chorus_turn.specs.declared.knowledge.Knowledge.{Knowledge}
 use Rattle.chorus_turn.specs.Journals.{at_place, entries_of}
 use Rattle.law_closing.specs.Behind.{AllFollow}
 use Rattle.law_closing.specs.Places.{PlaceNote}
@@ -21,7 +22,7 @@ use Rattle.chorus_nucleus.specs.declared.nucleus.Nucleus.{Nucleus}
 use Rattle.chorus_nucleus.specs.declared.pass.Pass.{Pass}
 use Rattle.chorus_nucleus.specs.Passes.{known, layout_of}
 use Rattle.chorus_nucleus.specs.Closing.{IsClosed}
-use Rattle.chorus_perform.specs.Scripts.{HasPerformed, IsSetUpFirst}
+use Rattle.chorus_perform.specs.Scripts.{HasPerformed, IsSetUpFirst, PerformsSetup}
 use Rattle.chorus_perform.specs.declared.stopped.Stopped.{Stopped}
 use Rattle.chorus_perform.specs.declared.stopped.Stopped.TheVariants as stops
 use Rattle.chorus_report.specs.declared.played.Played.{Played}
@@ -61,12 +62,21 @@ pub record IsOfNucleus (n : Nucleus) (closed : Closed) : Type 0 where
 abbrev pub HasWornOf : Status → Closed → Type 0
 HasWornOf status closed = (clock : ℕ) → status ≡ Worn clock → worn_of closed ≡ Some clock
 
--- It is this nucleus that was closed, by a pass that had all of the scenario performed, where nothing waits in it, unless
+-- Seat 0 performed the setup, and into it the pass of each script was retired, which performed its commands, or the first
+-- of them.
+pub record HasGone (c : Scene) (v : Knowledge PlaceNote) : Type 0 where
+  pub all : Bool
+  pub performed : HasPerformed all c v
+  pub setup : PerformsSetup c v.mine
+  pub came : length v.notes ≡ length c.scripts
+
+-- It is this nucleus that was closed, by a pass that had the scenario performed, all of it where nothing waits in it, unless
 -- a clock was worn.
 pub record IsAllPerformed (n : Nucleus) (c : Scene) (worn : Option ℕ) (closed : Closed) : Type 0 where
   pub last : Pass
   pub closes : IsClosed n last closed
   pub performed : worn ≡ None → HasNoWait c → HasPerformed true c (known last)
+  pub gone : worn ≡ None → HasGone c (known last)
 
 -- There is a scenario that the source gives, of which that is so.
 pub record HasAllPerformed (n : Nucleus) (told : Option (List ℕ)) (status : Status) (closed : Closed) : Type 0 where

@@ -49,6 +49,7 @@ use Rattle.law_outcomes.proofs.Awaiting.{own-many}
 use Rattle.law_outcomes.proofs.Playing.{plays-are-histories}
 use Rattle.law_outcomes.proofs.Replaying.{met, wholes-are-among-outcomes}
 use Rattle.law_runs.specs.Runs.{RunTextsAreAmongOutcomes, RunsAreAmongOutcomes, RunsAreHistories, RunsMeetClaims, WholeRunsAreRuns}
+use Rattle.law_runs.proofs.Standing.{runs-stand, same-scene}
 use Rattle.law_runs.proofs.Turns.{IsPlacedAt, Split, given-by, placed-all, race-events, setup-events, split, split-events}
 
 -- Lists.
@@ -288,14 +289,24 @@ unscheduled : (c : Scene) (steps : List Step) (closed : Closed) → IsOfWhole (r
 unscheduled c steps closed w = record { moves = w.moves; whole = w.whole; reads = record { lines = w.reads.lines; facts = w.reads.facts; acts = w.reads.acts; moves = w.reads.moves } }
 
 pub run-texts-are-among-outcomes : RunTextsAreAmongOutcomes
-run-texts-are-among-outcomes n most first input other old new status closed told run none same unworn rest all =
+run-texts-are-among-outcomes n most first input other old new status closed told run runs same unworn rest all =
     let d = run.scene in
     let last = run.all.last in
+    let gone = run.all.gone unworn in
     let layout : d.layout ≡ layout_of n = (printed_again (layout_of n) run.given.bytes d run.given.given).0 in
     let keeps : Keeps d = kept (layout_of n) run.given.bytes d run.given.given in
-    let shape : IsLayout d.layout = subst IsLayout (sym layout) run.all.closes.shape in
-    let nothing : HasNoWait d = subst HasNoWait (sym same) none in
-    let w = runs-are-histories d closed shape keeps
-    (whole-runs-are-runs d closed (known last) shape keeps nothing (run.all.performed unworn nothing) (subst (λ l. ClosesFor l (known last) closed) (sym layout) run.all.closes.for_actors) rest) in
+    let scene : runs.scene ≡ run.scene = same-scene (layout_of n) other runs.scene d runs.given run.given in
+    let stands = subst (λ (x : Scene). (i : ℕ) (script : Script) → slice_get x.scripts i ≡ Some script → StandsAt (layout_of n) script (suc i) (length (own_acts (suc i) (past_of closed))) (past_of closed)) scene
+    (runs-stand (layout_of n) (Some other) status closed runs unworn) in
+    let w = runs-are-histories d closed (subst IsLayout (sym layout) run.all.closes.shape) keeps (record {
+      known = known last;
+      all = gone.all;
+      performed = gone.performed;
+      setup = gone.setup;
+      came = gone.came;
+      stands = subst (λ l. (i : ℕ) (script : Script) → slice_get d.scripts i ≡ Some script → StandsAt l script (suc i) (length (own_acts (suc i) (past_of closed))) (past_of closed)) (sym layout) stands;
+      closes = subst (λ l. ClosesFor l (known last) closed) (sym layout) run.all.closes.for_actors;
+      rest = rest;
+    }) in
     wholes-are-among-outcomes told.scene most first told.text closed told.explored
     (unscheduled told.scene d.schedule closed (subst (λ (x : Scene). IsOfWhole x closed) same w)) all

@@ -14,6 +14,7 @@ use Rattle.chorus_scene.specs.Scene.{Scene, Script, HasNoWait}
 use Rattle.chorus_net.specs.declared.closed.Closed.{Closed}
 use Rattle.chorus_net.specs.Closing.{past_of}
 use Rattle.chorus_report.specs.Awaiting.{StandsAt}
+use Rattle.chorus_report.specs.Headline.{Runs}
 use Rattle.chorus_report.specs.Setup.{setup_commands}
 use Rattle.chorus_nucleus.specs.Closing.{ClosesFor}
 use Rattle.chorus_nucleus.specs.Passes.{layout_of}
@@ -69,12 +70,11 @@ RunsMeetClaims =
     (c : Scene) (k : Claim) (closed : Closed) → IsLayout c.layout → Keeps c → Judged c k Holds → IsRun c closed →
     IsSeenMet c k (λ (n : ℕ). Unit {0}) closed
 
--- From bytes to bytes: where `explore` is done with one text in which nothing waits, and `run` with one that says the same but
--- for its schedule.
+-- From bytes to bytes: where `explore` is done with one text, and `run` with one that says the same but for its schedule.
 abbrev pub RunTextsAreAmongOutcomes : Type 0
 RunTextsAreAmongOutcomes =
     (n : Nucleus) (most first : ℕ) (input other : List ℕ) (old new : Option (List ℕ)) (status : Status) (closed : Closed) →
     (told : Tells (layout_of n) most first Done (Some input) old new) → (run : HasAllPerformed n (Some other) status closed) →
-    HasNoWait told.scene → run.scene ≡ record told.scene { schedule = run.scene.schedule } → worn_clock status ≡ None →
+    Runs (layout_of n) (Some other) status closed → run.scene ≡ record told.scene { schedule = run.scene.schedule } → worn_clock status ≡ None →
     closed.rest.items ≡ [] → AllAreFound told.explored.explored (moves_read told.scene closed) →
     Contains (texts_in told.explored.explored) (outcome_of_closed told.scene closed)

@@ -11,8 +11,7 @@ pub fn runs_are_histories()
 {}
 
 /// So its lines are among those that an exploration of all tells (`told`), and it meets each claim that holds, wherever that is asked
-/// (`claims`); and so it is of two texts in which nothing waits, and that say the same but for their schedules, one that is explored and
-/// one that is run (`texts`).
+/// (`claims`); and so it is of two texts that say the same but for their schedules, one that is explored and one that is run (`texts`).
 pub fn runs_are_among_outcomes()
     ensures told { RunsAreAmongOutcomes }
     ensures claims { RunsMeetClaims }

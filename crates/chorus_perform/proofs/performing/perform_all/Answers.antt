@@ -1,6 +1,8 @@
-use Rattle.std.proofs.Common.{◌∙◌, true, false, ap, refl, sym}
+use Rattle.std.proofs.Common.{◌∙◌, true, false, List, length, ap, refl, sym}
 use Rattle.std.proofs.lemmas.Bool.{false≢true}
 use Rattle.chorus_calls.specs.Callers.{Seated}
+use Rattle.chorus_turn.specs.declared.knowledge.Note.{Note}
+use Rattle.law_closing.specs.Places.{PlaceNote}
 use Rattle.chorus_perform.specs.Runners.{is_whole}
 use Rattle.chorus_perform.proofs.Steps.{on-err}
 use Rattle.chorus_perform.proofs.Leavings.{is-set-up, performed-setup, performed-on, setup-on, less-done}
@@ -29,6 +31,9 @@ returns-clause-performed g c =
 pub returns-clause-setup : goal.returns-clause-setup
 returns-clause-setup g c =
     setup-on c.args.scenario.now c.run_scripts.new.pass c.settle.new.pass (ap (λ (w : Seated). w.actor) c.run_scripts.ensures.caller ∙ c.in_ok-set_up.ensures.ok.actor ∙ c.requires.opening.actor) c.run_scripts.ensures.setup c.settle.ensures.goes
+
+pub returns-clause-came : goal.returns-clause-came
+returns-clause-came g c = ap (λ (ns : List (Note PlaceNote)). length ns) c.settle.ensures.goes.same.1 ∙ c.in_ok-all.ensures.came
 
 pub returns-clause-unworn : goal.returns-clause-unworn
 returns-clause-unworn g c = c.in_ok-settle.ensures.unworn ∙ (c.in_ok-all.ensures.unworn ∙ c.in_ok-set_up.ensures.unworn)

@@ -8,7 +8,7 @@ use Rattle.chorus_nucleus.proofs.Behind.{more-itself}
 use Rattle.chorus_nucleus.specs.Passes.{caller_of, known, worn_by}
 use Rattle.chorus_perform.specs.Runners.{AreEntered, AreEnding, HasRetired, is_whole}
 use Rattle.chorus_perform.specs.Scripts.{HasPerformed, PerformsSetup}
-use Rattle.chorus_perform.proofs.Leavings.{all-ended, none-ended, on-ok-so, on-ok-map, on-ok-came, plain-came, performed-alone, performed-so, put-back}
+use Rattle.chorus_perform.proofs.Leavings.{all-came, all-ended, none-ended, on-ok-so, on-ok-map, on-ok-came, plain-came, performed-alone, performed-so, put-back}
 use Rattle.chorus_perform.proofs.performing.run_scripts.Goals as goal
 use Rattle.chorus_perform.proofs.performing.run_scripts.Goals.{then-entered, else-entered}
 
@@ -38,6 +38,18 @@ returns-clause-performed g c =
     ] in
     subst (λ r. HasPerformed (is_whole r) scene (known c.retire-how.new.pass)) (sym c.if_came.ensures)
     (performed-so scene c.retire-how.result c.is_ok-entered.result c.args.pass.now c.enter.new.pass c.retire-how.new.pass (vec_len c.enter.new.runners) c.requires.setup c.enter.ensures.entered
+    (subst (λ k. HasRetired c.retire-how.result scene 0 k c.enter.new.pass c.retire-how.new.pass) same c.retire-how.ensures.retired)
+    (λ t. on-ok-so c.enter.result c.is_ok-entered.result _ c.is_ok-entered.ensures.value t c.enter.ensures.all))
+
+pub returns-clause-came : goal.returns-clause-came
+returns-clause-came g c =
+    let scene = c.args.scenario.now in
+    let same : vec_len c.if-entered.runners ≡ vec_len c.enter.new.runners = elim c.if-entered.branch [
+      | then-entered w ↦ ap (λ (v : Vec Runner Global). vec_len v) w.runners-is
+      | else-entered w ↦ ap (λ (v : Vec Runner Global). vec_len v) w.runners-is
+    ] in
+    subst (λ r. OnOk r (length (known c.retire-how.new.pass).notes ≡ length c.args.scenario.now.scripts)) (sym c.if_came.ensures)
+    (all-came scene c.retire-how.result c.is_ok-entered.result c.enter.new.pass c.retire-how.new.pass (vec_len c.enter.new.runners)
     (subst (λ k. HasRetired c.retire-how.result scene 0 k c.enter.new.pass c.retire-how.new.pass) same c.retire-how.ensures.retired)
     (λ t. on-ok-so c.enter.result c.is_ok-entered.result _ c.is_ok-entered.ensures.value t c.enter.ensures.all))
 

@@ -3,7 +3,7 @@ use Rattle.chorus_run.proofs.running.play.Goals as goal
 
 pub returns-in_ok-stuck-in-Ok : goal.returns-in_ok-stuck-in-Ok
 returns-in_ok-stuck-in-Ok g c =
-    plays-all c.args.nucleus c.args.scenario.now c.perform-performed.new.pass c.in_ok-closed.closed _ c.in_ok-stuck-in-Ok.stuck.items c.requires.layout c.layout-layout.ensures.keeps c.in-Ok.ensures.performed c.in-Ok.ensures.setup c.in-Ok.ensures.whole c.in-Ok.ensures.even
+    plays-all c.args.nucleus c.args.scenario.now c.perform-performed.new.pass c.in_ok-closed.closed _ c.in_ok-stuck-in-Ok.stuck.items c.requires.layout c.layout-layout.ensures.keeps c.in-Ok.ensures.performed c.in-Ok.ensures.setup c.in-Ok.ensures.came c.in-Ok.ensures.whole c.in-Ok.ensures.even
     c.in_ok-closed.ensures c.in_ok-stuck-in-Ok.ensures
 
 pub returns-in_ok-stop-in-Err : goal.returns-in_ok-stop-in-Err
