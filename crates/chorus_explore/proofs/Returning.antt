@@ -2,7 +2,7 @@
 -- c is a scenario, s and t say how far a replay has come, es and fs are events, ts tasks, ms are moves, all with the latest first; i is the
 -- place of a script, k its seat, d a command, n a network.
 use Rattle.std.proofs.Common.{ℕ, zero, suc, ◌≡◌, ◌≤◌, ◌+◌, ◌==◌, Bool, true, false, ◌&&◌, not, cond, List, [], ◌∷◌, ◌++◌, length, map, reverse, ◌⊎◌, inl, inr, Option, Some, None, is_some, slice_get, refl, sym, ◌∙◌, ap, subst, arith}
-use Rattle.std.specs.List.{All, Contains}
+use Rattle.std.specs.List.{Contains}
 use Rattle.std.specs.Option.{option_map}
 use Rattle.std.proofs.lemmas.Bool.{and_parts, and_from, false≢true}
 use Rattle.std.proofs.lemmas.List.{append-nil}
@@ -22,7 +22,7 @@ use Rattle.law_explore.specs.declared.moves.Move.TheVariants.{Go, Carry}
 use Rattle.law_explore.specs.Neighbours.{is_ready}
 use Rattle.law_explore.specs.Positions.{next_behind}
 use Rattle.law_explore.specs.Search.{IsHistory}
-use Rattle.law_explore.specs.Races.{Order, Position, are_linked, event_of, is_now, is_ready_by, may_come, next_of, position_after, replaying, seat_0, IsWhole}
+use Rattle.law_explore.specs.Races.{Order, are_linked, event_of, is_now, is_ready_by, may_come, next_of, position_after, replaying, seat_0, IsWhole}
 use Rattle.law_explore.specs.Replays.{events_of}
 use Rattle.law_explore.proofs.Exploring.{lists-next}
 use Rattle.law_explore.proofs.Searching.{here}
@@ -43,7 +43,7 @@ use Rattle.chorus_replay.proofs.Determined.{either, ends-there}
 use Rattle.chorus_replay.proofs.Plays.{deliveries}
 use Rattle.chorus_replay.proofs.Standings.{PhaseFits, core-may, good, script-at}
 use Rattle.chorus_explore.specs.Shown.{ReplaysAreWhole}
-use Rattle.chorus_explore.specs.Stages.{goes_on, may_go, position}
+use Rattle.chorus_explore.specs.Stages.{goes_on, position}
 use Rattle.chorus_explore.proofs.Happening.{base-may, carried-all, events, history-may, left-none, net-is, script-may}
 use Rattle.chorus_explore.proofs.Moving.{some-same}
 use Rattle.chorus_explore.proofs.Racing.{base, first-at, map-reverse, position-layout, race-layout}

@@ -1,7 +1,7 @@
 -- Histories that are drawn are told beside those that were found.
 -- c is a scenario, e and x are what a search came to, before they are told and behind, hs, ks and found are histories, h is one, g is a
 -- finding.
-use Rattle.std.proofs.Common.{ℕ, suc, ◌≡◌, ◌<◌, ◌≤◌, ◌+◌, ◌-◌, ◌^◌, min, Bool, true, false, List, [], ◌∷◌, ◌++◌, length, map, drop, reverse, get_or, ◌⊎◌, inl, inr, refl, sym, ◌∙◌, ap, subst, arith}
+use Rattle.std.proofs.Common.{ℕ, suc, ◌≡◌, ◌<◌, ◌≤◌, ◌+◌, ◌-◌, ◌^◌, min, Bool, true, false, List, [], ◌∷◌, ◌++◌, length, map, drop, reverse, ◌⊎◌, inl, inr, refl, sym, ◌∙◌, ap, subst, arith}
 use Rattle.std.specs.List.{All, Contains}
 use Rattle.std.proofs.lemmas.Bool.{cases_lt, false≢true}
 use Rattle.std.proofs.lemmas.List.{append-nil, append_assoc, length-append}
@@ -16,7 +16,7 @@ use Rattle.chorus_scene.specs.Scene.{Scene}
 use Rattle.chorus_scene.specs.declared.limits.TheConstants.{STEPS_LIMIT}
 use Rattle.explore_report.specs.declared.explored.Explored.{Explored}
 use Rattle.explore_report.specs.declared.findings.Finding.{Finding}
-use Rattle.explore_report.specs.Findings.{AreFindings, ComeTo, Counts, HaveSums, found_of}
+use Rattle.explore_report.specs.Findings.{AreFindings, Counts, HaveSums, found_of}
 use Rattle.explore_report.specs.Reports.{report_text}
 use Rattle.chorus_explore.specs.declared.drawn_outcomes.Outcomes.{Outcomes}
 use Rattle.chorus_explore.specs.declared.level_search.Asked.{Asked}

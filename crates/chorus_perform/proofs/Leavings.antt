@@ -1,5 +1,5 @@
 -- What the passes leave, as they end.
-use Rattle.std.proofs.Common.{ℕ, zero, suc, ◌≡◌, ◌+◌, ◌-◌, ◌<◌, ◌≤◌, ◌&&◌, if◌then◌else◌, Bool, true, false, List, [], ◌∷◌, ◌++◌, take, length, reverse, Some, None, Result, Ok, Err, slice_get, slice_index_or, refl, sym, ◌∙◌, ap, subst, inl, inr, arith}
+use Rattle.std.proofs.Common.{ℕ, zero, suc, ◌≡◌, ◌+◌, ◌-◌, ◌<◌, ◌≤◌, if◌then◌else◌, Bool, true, false, List, [], ◌∷◌, ◌++◌, take, length, reverse, Some, None, Result, Ok, Err, slice_get, slice_index_or, refl, sym, ◌∙◌, ap, subst, inl, inr, arith}
 use Rattle.std.specs.Result.{OnOk, IfOk, is_ok}
 use Rattle.std.specs.List.{All}
 use Rattle.std.proofs.lemmas.Bool.{and_parts, and_from, false≢true}
@@ -18,7 +18,7 @@ use Rattle.law_closing.specs.Places.{PlaceNote}
 use Rattle.law_history.specs.Journals.{PlaceTurn}
 use Rattle.law_closing.specs.Remarks.{turns_in}
 use Rattle.chorus_calls.specs.Callers.{Seated}
-use Rattle.chorus_scene.specs.Scene.{Scene, Script, HasNoWait}
+use Rattle.chorus_scene.specs.Scene.{Scene, Script}
 use Rattle.chorus_report.specs.Setup.{setup_commands}
 use Rattle.chorus_nucleus.proofs.Behind.{more-itself, more-more, shown-more}
 use Rattle.chorus_nucleus.specs.declared.nucleus.Nucleus.{Nucleus}
@@ -32,7 +32,7 @@ use Rattle.chorus_perform.specs.declared.stopped.Halted.{Halted}
 use Rattle.chorus_perform.specs.Going.{Goes, GoesAsFar, BeginAbove, BeginsUpTo, CommandsUpTo}
 use Rattle.chorus_perform.specs.Scripts.{IsPerformedBy, IsOfScript, HasPerformed, IsOpening, PerformsSetup}
 use Rattle.chorus_perform.proofs.Halts.{retired-unworn}
-use Rattle.chorus_perform.specs.Runners.{IsSetUp, HasEntered, IsReadyAt, HasRunAt, IsEndingAt, AreReady, AreEntered, HaveRun, AreEnding, HasRetired, WholeUnless, both, if_came, is_whole}
+use Rattle.chorus_perform.specs.Runners.{IsSetUp, HasEntered, IsReadyAt, HasRunAt, IsEndingAt, AreReady, AreEntered, HaveRun, AreEnding, HasRetired, both, if_came, is_whole}
 
 -- What a pass that made nothing goes on to make.
 

@@ -4,7 +4,6 @@ use Rattle.chorus_ui.specs.declared.ui.Ui.{Ui}
 use Rattle.chorus_entry.specs.declared.command.Command.{Command}
 use Rattle.law_machine.specs.declared.reply.Reply.{Reply}
 use Rattle.chorus_nucleus.specs.declared.fault.CallFault.{CallFault}
-use Rattle.chorus_nucleus.specs.declared.fault.CallFault.TheVariants as faults
 use Rattle.chorus_nucleus.specs.declared.nucleus.Nucleus.{Nucleus}
 use Rattle.chorus_nucleus.specs.declared.pass.Pass.{Pass}
 use Rattle.chorus_nucleus.specs.declared.taken_message.TakenMessage.{TakenMessage}

@@ -1,6 +1,6 @@
 -- A pass goes on by one call more.
 use Rattle.std.specs.Result.{OnOk, OnErr}
-use Rattle.std.proofs.Common.{ℕ, zero, suc, take, take_all, drop, slice_index_or, Some, None, Result, Ok, Err, ◌≡◌, ◌+◌, ◌<◌, ◌≤◌, true, List, [], ◌∷◌, ◌++◌, length, refl, sym, ◌∙◌, ap, subst, inl, inr, arith, append_assoc}
+use Rattle.std.proofs.Common.{ℕ, zero, suc, take, take_all, drop, slice_index_or, None, Result, Ok, Err, ◌≡◌, ◌+◌, ◌<◌, ◌≤◌, true, List, [], ◌∷◌, ◌++◌, length, refl, sym, ◌∙◌, ap, subst, inl, inr, arith, append_assoc}
 use Rattle.std.proofs.lemmas.List.{append-nil, length-append, take_more}
 use Rattle.std.proofs.lemmas.List.Elements.{All-nil, All-cons, All-head, All-tail, All-append}
 use Rattle.chorus_ui.specs.declared.ui.Ui.{Ui}

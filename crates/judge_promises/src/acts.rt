@@ -33,7 +33,8 @@ fn posted_to_group(log: &Log, id: MsgId, group: Ui) -> bool
     }
 }
 
-/// Whether the ports are members that may be chosen for the post of the log: some, none twice, and one where it goes to one.
+/// Whether the ports are members that may be chosen for the post of the log: some, none twice, and one where it goes to
+/// one.
 fn are_members(log: &Log, id: MsgId, members: &[Ui]) -> bool
     ensures { result ≡ are_members id members.now (read log.now.past) }
 {

@@ -55,8 +55,8 @@ fn accept_about(id: MsgId, port: Ui, number: u8) -> About
     )
 }
 
-/// The earlier entry that the condition with this number is about, of a refusal by a place that holds the port, of which the last
-/// condition is about this one.
+/// The earlier entry that the condition with this number is about, of a refusal by a place that holds the port, of
+/// which the last condition is about this one.
 fn held_about(id: MsgId, port: Ui, last: About, number: u8) -> About
     ensures { result ≡ about_at (deciding_about id (About.Moves port ∷ last ∷ [])) number }
 {
@@ -71,8 +71,8 @@ fn held_about(id: MsgId, port: Ui, last: About, number: u8) -> About
     )
 }
 
-/// The earlier entry that the condition with this number is about, of a decision or a choice, of which the last condition is about
-/// this one.
+/// The earlier entry that the condition with this number is about, of a decision or a choice, of which the last
+/// condition is about this one.
 fn decision_about(id: MsgId, last: About, number: u8) -> About
     ensures { result ≡ about_at (deciding_about id (last ∷ [])) number }
 {
@@ -95,8 +95,8 @@ fn clients_full_about(id: MsgId, port: Ui, number: u8) -> About
     held_about(id, port, source_of(id), number)
 }
 
-/// The earlier entry that the condition with this number is about, of an act that holds the port, of which the last condition is
-/// about this one.
+/// The earlier entry that the condition with this number is about, of an act that holds the port, of which the last
+/// condition is about this one.
 fn port_about(port: Ui, last: About, number: u8) -> About
     ensures { result ≡ about_at (About.Moves port ∷ last ∷ []) number }
 {
@@ -167,8 +167,8 @@ fn broken_about(entry: &Entry, breach: Breach) -> About
     }
 }
 
-/// The line of the last entry that a promise is about, of those that are read, in a printed journal that begins with these; 0 where
-/// there is none.
+/// The line of the last entry that a promise is about, of those that are read, in a printed journal that begins with
+/// these; 0 where there is none.
 fn read_line(entries: &[Entry], about: &About) -> u64
     ensures { result ≡ read_line (reverse entries.now) about.now }
 {

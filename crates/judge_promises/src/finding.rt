@@ -17,7 +17,8 @@ use chorus_world::Progress;
 use law_judge::{Awaited, Open, OpenAt};
 use std::alloc::{AllocError, Global};
 
-/// What is open at the end of the log's entries, with the lines of a printed journal that it began with: from the first one on.
+/// What is open at the end of the log's entries, with the lines of a printed journal that it began with: from the first
+/// one on.
 pub fn open_entries(alloc: Global, log: &Log) -> Result<Vec<OpenAt>, AllocError>
     ensures { IfOk result (λ found. found.items ≡ all_open log.now.past) }
 {
@@ -54,7 +55,8 @@ fn push_found(line: u64, what: Open, out: &mut Vec<OpenAt>) -> Result<(), AllocE
     Ok(())
 }
 
-/// Appends the message that the entry at this line of a journal began, where something is still to come of it in the log.
+/// Appends the message that the entry at this line of a journal began, where something is still to come of it in the
+/// log.
 fn push_message(log: &Log, line: u64, id: MsgId, out: &mut Vec<OpenAt>) -> Result<(), AllocError>
     ensures { OnOk result (out.new.items ≡ out.old.items ++ message_at log.now.past line id) }
 {
@@ -64,8 +66,8 @@ fn push_message(log: &Log, line: u64, id: MsgId, out: &mut Vec<OpenAt>) -> Resul
     Ok(())
 }
 
-/// Appends the copies of a post for these members, of which so many others come before them, that the entry at this line of a
-/// journal began, where something is still to come of them in the log.
+/// Appends the copies of a post for these members, of which so many others come before them, that the entry at this
+/// line of a journal began, where something is still to come of them in the log.
 fn push_copies(
     log: &Log,
     line: u64,

@@ -179,8 +179,8 @@ impl Log {
         is_old(&self.tables.most, port, id.seat, &tag)
     }
 
-    /// Takes the entry as the next one of the log. It is refused exactly where it breaks a promise; a refusal changes nothing, and
-    /// the entry is dropped.
+    /// Takes the entry as the next one of the log. It is refused exactly where it breaks a promise; a refusal changes
+    /// nothing, and the entry is dropped.
     pub fn apply(&mut self, entry: Entry) -> Result<(), LogFault>
         ensures kept { OnOk result (breach_by self.old.layout self.old.past entry ≡ None) }
         ensures ok { OnOk result (self.new ≡ with_entry self.old entry) }

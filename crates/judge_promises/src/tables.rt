@@ -115,7 +115,8 @@ pub(crate) fn route_in(post: &Option<Posting>) -> Option<Ui>
     }
 }
 
-/// Whether the message's number is above that of the last one that the port accepted of its caller by this route, by its row.
+/// Whether the message's number is above that of the last one that the port accepted of its caller by this route, by
+/// its row.
 pub(crate) fn is_above(
     routes: &HashMap<RouteKey, u32>,
     port: Ui,
@@ -153,7 +154,8 @@ fn was_asked(asked: &HashMap<RequestKey, bool>, port: Ui, seat: u32, number: u32
     }
 }
 
-/// Whether a message of the caller with this tag is a request, and the port accepted it or a later one, by the row of the caller.
+/// Whether a message of the caller with this tag is a request, and the port accepted it or a later one, by the row of
+/// the caller.
 pub(crate) fn is_old(most: &HashMap<ClientOf, u32>, port: Ui, seat: u32, tag: &Tag) -> bool
     ensures { result ≡ is_old_in most.now port seat tag.now }
 {
@@ -320,7 +322,8 @@ impl Tables {
         Ok(())
     }
 
-    /// The log's tables after the entry, which is passed over unless its act is one that is read. An error leaves them as they were.
+    /// The log's tables after the entry, which is passed over unless its act is one that is read. An error leaves them
+    /// as they were.
     pub(crate) fn read(&mut self, alloc: Global, entry: &Entry) -> Result<(), AllocError>
         requires room { HasRoom self.old }
         requires makes { MakeFits entry.now.act }

@@ -1,4 +1,4 @@
-use Rattle.std.proofs.Common.{ℕ, ◌≡◌, ◌∷◌, ◌++◌, [], None, length, refl, ap, arith}
+use Rattle.std.proofs.Common.{◌≡◌, ◌∷◌, ◌++◌, [], None, length, refl, ap, arith}
 use Rattle.std.proofs.lemmas.List.{length-append}
 use Rattle.chorus_explore.specs.declared.exploration.TheConstants.{HISTORIES_DRAWN}
 use Rattle.chorus_explore.specs.declared.drawn_outcomes.Outcomes.{Outcomes}

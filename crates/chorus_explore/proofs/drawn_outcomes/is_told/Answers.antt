@@ -1,11 +1,8 @@
-use Rattle.std.proofs.Common.{ℕ, ◌≡◌, ◌<◌, [], true, false, length, reverse, refl, sym, ◌∙◌, ap, subst, arith}
+use Rattle.std.proofs.Common.{length, reverse, sym, ◌∙◌, ap, subst, arith}
 use Rattle.std.proofs.lemmas.Bool.{eqb-true, eq-eqb, false≢true}
 use Rattle.std.proofs.lemmas.List.{length-reverse, nil_from_length}
 use Rattle.std.specs.List.{Contains}
-use Rattle.law_explore.specs.Positions.{next_behind}
-use Rattle.law_replay.specs.Shown.{race_of}
 use Rattle.chorus_explore.specs.DrawnOutcomes.{histories_in}
-use Rattle.chorus_explore.specs.Stages.{moves_of}
 use Rattle.chorus_explore.proofs.drawn_outcomes.is_told.Goals.{then-len-bound-via-then-len-bound, then-len-bound-via-else-len-bound+then-are_among}
 use Rattle.chorus_explore.proofs.drawn_outcomes.is_told.Goals as goal
 

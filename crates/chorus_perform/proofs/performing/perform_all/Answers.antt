@@ -1,4 +1,4 @@
-use Rattle.std.proofs.Common.{◌∙◌, true, false, ap, refl, sym}
+use Rattle.std.proofs.Common.{◌∙◌, false, ap}
 use Rattle.std.proofs.lemmas.Bool.{false≢true}
 use Rattle.chorus_calls.specs.Callers.{Seated}
 use Rattle.chorus_perform.specs.Runners.{is_whole}

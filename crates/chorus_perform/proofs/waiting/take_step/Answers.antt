@@ -1,8 +1,7 @@
-use Rattle.std.proofs.Common.{◌≡◌, ◌∙◌, [], ◌∷◌, sym, ap, subst}
+use Rattle.std.proofs.Common.{◌∙◌, [], ◌∷◌, sym, ap, subst}
 use Rattle.chorus_entry.specs.declared.command.Command.{Command}
 use Rattle.chorus_entry.specs.Command.{meets_conditions}
 use Rattle.chorus_perform.specs.Going.{Goes}
-use Rattle.chorus_perform.proofs.Steps.{on-err}
 use Rattle.chorus_perform.proofs.waiting.take_step.Goals as goal
 
 pub wait_for-requires-clause-port : goal.wait_for-requires-clause-port
