@@ -6,6 +6,7 @@ in crates/judge_promises/specs/Conditions.antt). This has their words."""
 # Each act, by its word: its rule is its place here, from 1. Its words are those of its conditions from the second on; the first is that
 # its names are of their kinds. {0}, {1} .. are the fields of the act.
 HELD, ACTOR = "{%d} is held at place {place}", "there is an actor {%d}"
+FIRST = "waits first in {0}"
 DUE, LOCATED = "{0} is to be decided at place {place} for {1}", "{1} left place {place} for place {%d} by hop {%d}"
 ENTERS = [
     HELD % 1,
@@ -61,7 +62,7 @@ WORDS = {
     ],
     "told": ["that was decided on {0} where place {place} tried it"],
     "heard": ["that became of {0}, which the place did not hear yet", "{0} was posted at place {place} to a group of another place"],
-    "take": [HELD % 0, "{1} messages were taken before it", "{2} waits first in {0}"],
+    "take": [HELD % 0, "{1} messages were taken before it", "{2} " + FIRST],
     "done": [TAKEN, "it ends call {0} of the caller"],
     "late": [TAKEN, "it ends no call of the caller"],
     "empty": [HELD % 0, "nothing waits in {0}"],
@@ -116,7 +117,7 @@ PROMISES = {
     "elsewhere": [*SENT, "{0} is for one site"],
     "no-member": ASKED,
     "choose": [*ASKED, "members are chosen, none of them twice, and one alone where {0} is for one"],
-    "take": [HELD % 0, "{2} waits first in {0}", "{1} messages were taken before it"],
+    "take": [HELD % 0, "{2} " + FIRST, "{1} messages were taken before it"],
     "depart": [HELD % 0, "there is a place {1}, and it is another one", "hop {3} is the next one of {0}"],
     "arrive": ["{0} is on its way to place {place}", "it left by hop {1}"],
     "delete": [HELD % 0, "the messages that it names are those that wait in {0}, in order"],
